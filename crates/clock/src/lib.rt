@@ -1,0 +1,50 @@
+// A clock: eight 32-bit numbers, one per desk. It tells which writes a desk knows of.
+ghost use mathlib.Core.Path.{_≡_};
+ghost use Prim.Native.Nat.{max};
+ghost use Rattle.clock.specs.Clock.{zeroClock, merged, isBefore};
+
+pub struct Clock {
+    pub n: [u32; 8],
+}
+
+impl Clock {
+    // The clock of a fresh desk.
+    pub const ZERO: Clock = Clock { n: [0; 8] };
+
+    // What either clock knows: the larger of each pair of numbers.
+    pub fn merge(self, other: Clock) -> Clock
+        ensures { λ r. ⌜ r ≡ merged self other ⌝ }
+    {
+        let mut all = self;
+        for k in 0..8 {
+            all.n[k] = larger(self.n[k], other.n[k]);
+        }
+        all
+    }
+
+    // Strictly before: no number is larger than the other clock's, and at least one is smaller.
+    pub fn before(self, other: Clock) -> bool
+        ensures { λ r. ⌜ r ≡ isBefore self other ⌝ }
+    {
+        let mut none_larger = true;
+        let mut one_smaller = false;
+        for desk in 0..8 {
+            none_larger = none_larger & (self.n[desk] <= other.n[desk]);
+            one_smaller = one_smaller | (self.n[desk] < other.n[desk]);
+        }
+        none_larger & one_smaller
+    }
+}
+
+fn larger(a: u32, b: u32) -> u32
+    ensures { λ r. ⌜ r ≡ max a b ⌝ }
+{
+    if a < b { b } else { a }
+}
+
+// A contract cannot name a constant, so this says what ZERO is.
+fn zero() -> Clock
+    ensures { λ r. ⌜ r ≡ zeroClock ⌝ }
+{
+    Clock::ZERO
+}

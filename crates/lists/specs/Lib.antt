@@ -1,0 +1,5 @@
+pub mod Each
+pub mod Part
+pub mod Replaced
+pub mod Sum
+pub mod Test
