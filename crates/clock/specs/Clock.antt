@@ -1,10 +1,11 @@
 -- Clocks, in the words of 01. A clock is a list of numbers, one per desk; a number past the list's end counts as 0.
 -- Assumes nothing.
-use mathlib.Core.Bool.{Bool, _&&_}
+use mathlib.Core.Bool.{Bool, _&&_, _||_}
 use mathlib.Core.List.{List, [], _∷_}
-use Prim.Native.Nat.{ℕ, _+_, _≤_, max}
-use lib.Dec.{leb, ltb}
+use Prim.Native.Nat.{ℕ, _+_, max}
+use lib.Dec.{leb, ltb, eqb}
 use lib.ListN.{getD, set, replicate}
+use Rattle.lists.specs.Each.{mapAt}
 use Rattle.lists.specs.Test.{every, some}
 use Rattle.clock.specs.declared.Clock.{Clock}
 
@@ -30,6 +31,13 @@ merged a b = record { n = paired max (a .n) (b .n) }
 -- "Clock A is strictly before B if no number of A is larger than B's and at least one is smaller."
 unfoldable pub isBefore : Clock → Clock → Bool
 isBefore a b = every (paired leb (a .n) (b .n)) && some (paired ltb (a .n) (b .n))
+
+-- "numbers past the desk count are 0": that of desk k, and all of a clock
+abbrev pub zeroPast : ℕ → ℕ → ℕ → Bool
+zeroPast d k x = ltb k d || eqb x 0
+
+unfoldable pub isWithin : ℕ → Clock → Bool
+isWithin d c = every (mapAt (zeroPast d) (c .n))
 
 -- the clock with desk k's number one higher
 unfoldable pub raised : Clock → ℕ → Clock

@@ -1,18 +1,18 @@
 -- Laws on clocks, for clocks of any length. Callers use these and not the definitions' text.
 -- Assumes nothing.
 use mathlib.Core.Path.{_≡_, refl, sym, ap, _∙_}
-use mathlib.Core.Bool.{Bool, true, false, _&&_}
+use mathlib.Core.Bool.{Bool, true, false, _||_}
 use mathlib.Core.List.{List, [], _∷_}
 use Prim.Native.Nat.{ℕ, zero, suc, _+_, _≤_, _<_, max}
 use native.Mathlib.Omega.{arith}
 use native.Mathlib.Decide.{ℕ-discrete, decLt}
-use lib.Dec.{leb, ltb}
-use lib.ListN.{length, getD, set, length-set, getD-replicate}
+use lib.Dec.{leb, ltb, eqb}
+use lib.ListN.{length, getD, List·getD-eq-default}
 use lib.Seq.{ext-getD, getD-set-same, getD-set-other}
-use borrow.Author.Tests.{ltb-true, leb-true, lt-ltb, le-leb, le-ltb}
-use Rattle.lists.specs.Test.{every, some, fails, both, both-left, both-right, every-at, every-of, some-at, some-of}
+use borrow.Author.Tests.{ltb-true, leb-true, eqb-true, lt-ltb, le-leb, le-ltb, eq-eqb}
+use Rattle.lists.specs.Test.{every, some, fails, both, both-left, both-right, either, either-left, every-at, every-of, every-mapAt, mapAt-every, some-at, some-of}
 use Rattle.clock.specs.declared.Clock.{Clock}
-use Rattle.clock.specs.Clock.{number, zeroClock, paired, merged, isBefore, raised}
+use Rattle.clock.specs.Clock.{number, zeroClock, paired, merged, isBefore, zeroPast, isWithin, raised}
 
 -- ---- pairs of numbers
 pub paired-at : {A : Type 0} (f : ℕ → ℕ → A) (a b : List ℕ) (k : ℕ) → getD (paired f a b) k (f 0 0) ≡ f (getD a k 0) (getD b k 0)
@@ -43,6 +43,21 @@ NoLater a b = (k : ℕ) → number a k ≤ number b k
 -- "numbers past the desk count are 0"
 abbrev pub ZeroPast : ℕ → Clock → Type 0
 ZeroPast d c = (k : ℕ) → d ≤ k → number c k ≡ 0
+
+-- the test of it, as that rule and back
+pub within-past : (d : ℕ) (c : Clock) → isWithin d c ≡ true → ZeroPast d c
+unfolding isWithin
+within-past d c e k h =
+    elim (decLt k (length (c .n))) [
+      | yes i ↦ eqb-true (number c k) 0 (either-left (le-ltb k d h) (every-mapAt (zeroPast d) (c .n) 0 e k i))
+      | no i ↦ List·getD-eq-default (c .n) 0 (omega arith)
+    ]
+
+pub past-within : (d : ℕ) (c : Clock) → ZeroPast d c → isWithin d c ≡ true
+unfolding isWithin
+past-within d c p =
+    mapAt-every (zeroPast d) (c .n) 0
+    (λ k i. elim (decLt k d) [ yes h ↦ rw (lt-ltb k d h) | no h ↦ either (ltb k d) (eq-eqb (number c k) 0 (p k (omega arith))) ])
 
 -- ---- merge
 pub merge-at : (a b : Clock) (k : ℕ) → number (merged a b) k ≡ max (number a k) (number b k)

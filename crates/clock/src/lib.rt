@@ -1,7 +1,7 @@
 // A clock: eight 32-bit numbers, one per desk. It tells which writes a desk knows of.
 ghost use mathlib.Core.Path.{_≡_};
 ghost use Prim.Native.Nat.{max};
-ghost use Rattle.clock.specs.Clock.{zeroClock, merged, isBefore};
+ghost use Rattle.clock.specs.Clock.{zeroClock, merged, isBefore, isWithin};
 
 pub struct Clock {
     pub n: [u32; 8],
@@ -33,6 +33,18 @@ impl Clock {
             one_smaller = one_smaller | (self.n[desk] < other.n[desk]);
         }
         none_larger & one_smaller
+    }
+
+    // Whether the numbers past the desk count are 0.
+    pub fn within(self, desks: u8) -> bool
+        ensures { λ r. ⌜ r ≡ isWithin desks self ⌝ }
+    {
+        let count = desks as usize;
+        let mut rest_zero = true;
+        for place in 0..8 {
+            rest_zero = rest_zero & ((place < count) | (self.n[place] == 0));
+        }
+        rest_zero
     }
 }
 

@@ -2,7 +2,7 @@
 -- A place past the end passes where all must, and fails where one must.
 -- Assumes nothing.
 use mathlib.Core.Path.{_≡_, refl, sym, _∙_}
-use mathlib.Core.Bool.{Bool, true, false, _&&_, _||_, and-assoc, or-assoc, and-true, or-false}
+use mathlib.Core.Bool.{Bool, true, false, _&&_, _||_, and-assoc, or-assoc, and-true, or-true, or-false}
 use mathlib.Core.List.{List, [], _∷_}
 use Prim.Native.Nat.{ℕ, zero, suc, _+_, _<_, _≤_}
 use native.Mathlib.Numerals.{add-one}
@@ -34,6 +34,12 @@ both-left false b e = e
 pub both-right : (a b : Bool) → (a && b) ≡ true → b ≡ true
 both-right true b e = e
 both-right false b e = cc
+
+pub either : (a : Bool) {b : Bool} → b ≡ true → (a || b) ≡ true
+either a p = rw (p, or-true a)
+
+pub either-left : {a b : Bool} → a ≡ false → (a || b) ≡ true → b ≡ true
+either-left p q = rw p at q
 
 -- ---- as a loop finds it: what it has so far, and what is left
 pub every-turn : (l : List Bool) (i : ℕ) (so-far : Bool) → i < length l → every l ≡ (so-far && every (drop i l)) → every l ≡ (so-far && getD l i true && every (drop (i + 1) l))
@@ -81,6 +87,13 @@ some-of (false ∷ bs) e = let found = some-of bs e in (suc (found .0), found .1
 module _ {A : Type 0} (test : ℕ → A → Bool) (l : List A) (d : A) where
   pub every-mapAt : every (mapAt test l) ≡ true → (k : ℕ) → k < length l → test k (getD l k d) ≡ true
   every-mapAt e k h = sym (getD-mapAt test l k d true h) ∙ every-at (mapAt test l) e k
+
+  pub mapAt-turn : (i : ℕ) (so-far : Bool) → i < length l → every (mapAt test l) ≡ (so-far && every (drop i (mapAt test l)))
+      → every (mapAt test l) ≡ (so-far && test i (getD l i d) && every (drop (i + 1) (mapAt test l)))
+  mapAt-turn i so-far h e = rw (← getD-mapAt test l i d true h) (every-turn (mapAt test l) i so-far (omega (arith, length-mapAt test l)) e)
+
+  pub mapAt-end : (i : ℕ) (so-far : Bool) → length l ≤ i → every (mapAt test l) ≡ (so-far && every (drop i (mapAt test l))) → every (mapAt test l) ≡ so-far
+  mapAt-end i so-far h e = every-end (mapAt test l) i so-far (omega (arith, length-mapAt test l)) e
 
   pub mapAt-every : ((k : ℕ) → k < length l → test k (getD l k d) ≡ true) → every (mapAt test l) ≡ true
   mapAt-every p =
