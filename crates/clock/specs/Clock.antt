@@ -14,7 +14,7 @@ abbrev pub number : Clock → ℕ → ℕ
 number c k = getD (c .n) k 0
 
 -- "The clock of a fresh desk is all zeros."
-unfoldable pub zeroClock : Clock
+abbrev pub zeroClock : Clock
 zeroClock = record { n = replicate 8 0 }
 
 -- what f makes of each pair of numbers

@@ -1,5 +1,13 @@
 // One desk: its record, and what it does with an event, a request and an answer. The table only carries messages between desks.
+ghost use mathlib.Core.Path.{_≡_};
+ghost use Rattle.desk.specs.Desk.{noMessage};
+ghost use Rattle.desk.specs.Rules.{eventRule, serveRule, bringRule, replied as replied·def};
 use clock::Clock;
+
+mod asking;
+mod losing;
+mod serving;
+mod sound;
 
 // What a desk has of one cell. A cell that is not held has word 0 and the zero stamp.
 pub struct Cell {
@@ -55,4 +63,98 @@ pub struct Message {
     pub cell: u8,
     pub word: u32,
     pub clock: Clock,
+}
+
+// What a step gives: the reply, the message to send (all zero where there is none), and the record afterwards.
+pub struct Step {
+    pub reply: Reply,
+    pub message: Message,
+    pub after: Record,
+}
+
+impl Record {
+    // Kinds 1 Read, 2 Write and 5 Drop for this desk, whatever desk the event names.
+    pub fn event(self, e: Event) -> Step
+        ensures { λ r. ⌜ r ≡ eventRule self e ⌝ }
+    {
+        let refusal = asking::refusal(self, e);
+        if refusal != 0 {
+            return refused(self, refusal);
+        }
+        let kind = e.kind;
+        let c = e.cell as usize;
+        if kind == 1 {
+            return asking::read(self, c);
+        }
+        if kind == 2 {
+            return asking::write(self, c, e.word);
+        }
+        asking::give_up(self, c)
+    }
+
+    // A request of another desk for a cell that this desk keeps.
+    pub fn serve(self, m: Message) -> Step
+        ensures { λ r. ⌜ r ≡ serveRule self m ⌝ }
+    {
+        let refusal = serving::serve_refusal(self, m);
+        if refusal != 0 {
+            return refused(self, refusal);
+        }
+        let kind = m.kind;
+        if kind == 1 {
+            return serving::answer_read(self, m);
+        }
+        serving::take_write(self, m)
+    }
+
+    // The answer to what this desk asked.
+    pub fn bring(self, m: Message) -> Step
+        ensures { λ r. ⌜ r ≡ bringRule self m ⌝ }
+    {
+        let refusal = serving::bring_refusal(self, m);
+        if refusal != 0 {
+            return refused(self, refusal);
+        }
+        serving::bring_answer(self, m)
+    }
+}
+
+const NO_MESSAGE: Message = Message {
+    kind: 0,
+    desks: 0,
+    desk: 0,
+    cell: 0,
+    word: 0,
+    clock: Clock::ZERO,
+};
+
+const NO_CELL: Cell = Cell {
+    held: false,
+    word: 0,
+    stamp: Clock::ZERO,
+};
+
+const NO_SLOT: Slot = Slot {
+    kind: 0,
+    cell: 0,
+    word: 0,
+    clock: Clock::ZERO,
+};
+
+// A reply with no message.
+fn replied(code: u32, value: u32, count: u32, after: Record) -> Step
+    ensures { λ r. ⌜ r ≡ replied·def code value count noMessage after ⌝ }
+{
+    Step {
+        reply: Reply { code, value, count },
+        message: NO_MESSAGE,
+        after,
+    }
+}
+
+// A refusal gives its number and leaves the record as it was.
+fn refused(v: Record, code: u32) -> Step
+    ensures { λ r. ⌜ r ≡ replied·def code 0 0 noMessage v ⌝ }
+{
+    replied(code, 0, 0, v)
 }

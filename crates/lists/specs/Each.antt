@@ -1,12 +1,16 @@
 -- A list mapped at each place: what stands at place k becomes f k of it.
 -- Assumes nothing.
-use mathlib.Core.Path.{_≡_, refl, ap}
-use mathlib.Core.List.{List, [], _∷_}
+use mathlib.Core.Path.{_≡_, refl, sym, ap, _∙_}
+use mathlib.Core.List.{List, [], _∷_, map}
 use Prim.Native.Nat.{ℕ, zero, suc, _<_}
 use native.Mathlib.Nat.{le-of-suc-le-suc, not-suc-le-zero}
-use lib.ListN.{length, getD}
+use lib.ListN.{length, getD, length-map}
 
 module _ {A B : Type 0} where
+  -- what owning an array of structs tells of its length
+  pub length-mapped : (f : A → B) (l : List A) (n : ℕ) → length (map f l) ≡ n → length l ≡ n
+  length-mapped f l n e = sym (length-map l f) ∙ e
+
   unfoldable pub mapAt : (ℕ → A → B) → List A → List B
   mapAt f [] = []
   mapAt f (x ∷ xs) = f 0 x ∷ mapAt (λ k. f (suc k)) xs

@@ -42,19 +42,19 @@ pub either-left : {a b : Bool} → a ≡ false → (a || b) ≡ true → b ≡ t
 either-left p q = rw p at q
 
 -- ---- as a loop finds it: what it has so far, and what is left
-pub every-turn : (l : List Bool) (i : ℕ) (so-far : Bool) → i < length l → every l ≡ (so-far && every (drop i l)) → every l ≡ (so-far && getD l i true && every (drop (i + 1) l))
+pub every-turn : {whole : Bool} (l : List Bool) (i : ℕ) (so-far : Bool) → i < length l → whole ≡ (so-far && every (drop i l)) → whole ≡ (so-far && getD l i true && every (drop (i + 1) l))
 unfolding every
 every-turn l i so-far h e = e ∙ rw (add-one, drop-cons l i true h, and-assoc so-far (getD l i true) (every (drop (suc i) l)))
 
-pub every-end : (l : List Bool) (i : ℕ) (so-far : Bool) → length l ≤ i → every l ≡ (so-far && every (drop i l)) → every l ≡ so-far
+pub every-end : {whole : Bool} (l : List Bool) (i : ℕ) (so-far : Bool) → length l ≤ i → whole ≡ (so-far && every (drop i l)) → whole ≡ so-far
 unfolding every
 every-end l i so-far h e = e ∙ rw (drop-of-length-le l h, and-true so-far)
 
-pub some-turn : (l : List Bool) (i : ℕ) (so-far : Bool) → i < length l → some l ≡ (so-far || some (drop i l)) → some l ≡ (so-far || getD l i false || some (drop (i + 1) l))
+pub some-turn : {whole : Bool} (l : List Bool) (i : ℕ) (so-far : Bool) → i < length l → whole ≡ (so-far || some (drop i l)) → whole ≡ (so-far || getD l i false || some (drop (i + 1) l))
 unfolding some
 some-turn l i so-far h e = e ∙ rw (add-one, drop-cons l i false h, or-assoc so-far (getD l i false) (some (drop (suc i) l)))
 
-pub some-end : (l : List Bool) (i : ℕ) (so-far : Bool) → length l ≤ i → some l ≡ (so-far || some (drop i l)) → some l ≡ so-far
+pub some-end : {whole : Bool} (l : List Bool) (i : ℕ) (so-far : Bool) → length l ≤ i → whole ≡ (so-far || some (drop i l)) → whole ≡ so-far
 unfolding some
 some-end l i so-far h e = e ∙ rw (drop-of-length-le l h, or-false so-far)
 
@@ -88,11 +88,11 @@ module _ {A : Type 0} (test : ℕ → A → Bool) (l : List A) (d : A) where
   pub every-mapAt : every (mapAt test l) ≡ true → (k : ℕ) → k < length l → test k (getD l k d) ≡ true
   every-mapAt e k h = sym (getD-mapAt test l k d true h) ∙ every-at (mapAt test l) e k
 
-  pub mapAt-turn : (i : ℕ) (so-far : Bool) → i < length l → every (mapAt test l) ≡ (so-far && every (drop i (mapAt test l)))
-      → every (mapAt test l) ≡ (so-far && test i (getD l i d) && every (drop (i + 1) (mapAt test l)))
+  pub mapAt-turn : {whole : Bool} (i : ℕ) (so-far : Bool) → i < length l → whole ≡ (so-far && every (drop i (mapAt test l)))
+      → whole ≡ (so-far && test i (getD l i d) && every (drop (i + 1) (mapAt test l)))
   mapAt-turn i so-far h e = rw (← getD-mapAt test l i d true h) (every-turn (mapAt test l) i so-far (omega (arith, length-mapAt test l)) e)
 
-  pub mapAt-end : (i : ℕ) (so-far : Bool) → length l ≤ i → every (mapAt test l) ≡ (so-far && every (drop i (mapAt test l))) → every (mapAt test l) ≡ so-far
+  pub mapAt-end : {whole : Bool} (i : ℕ) (so-far : Bool) → length l ≤ i → whole ≡ (so-far && every (drop i (mapAt test l))) → whole ≡ so-far
   mapAt-end i so-far h e = every-end (mapAt test l) i so-far (omega (arith, length-mapAt test l)) e
 
   pub mapAt-every : ((k : ℕ) → k < length l → test k (getD l k d) ≡ true) → every (mapAt test l) ≡ true

@@ -1,0 +1,34 @@
+use borrow.Author.Needs.{needs}
+use native.Mathlib.Omega.{arith}
+use mathlib.Core.Path.{_≡_, refl, sym, ap, ap₂, _∙_}
+use Rattle.desk.specs.Rules.{unless, bringDone, bringRule}
+use Rattle.desk.specs.RuleLaws.{unless-refused, bring-place}
+use Rattle.desk.proofs.Record.bring.Statement.{statement}
+use Rattle.desk.proofs.Record.bring.Tie as tie
+use Rattle.desk.proofs.Record.bring.Reads as reads
+use Rattle.desk.proofs.Record.bring.Lts as lts
+use Rattle.desk.proofs.refused.Reads as refused-reads
+use Rattle.desk.proofs.serving.bring_answer.Reads as bring-answer-reads
+use Rattle.desk.proofs.serving.bring_refusal.Reads as bring-refusal-reads
+
+bring-refusal-requires : tie.Need-bring-refusal-requires
+bring-refusal-requires c κs = search needs
+
+refused-requires : tie.Need-refused-requires
+refused-requires c κs = search needs
+
+returns : tie.Need-returns
+unfolding bringRule
+returns c = rw (← c .before .before .bring-refusal .ensures) (c .refused .ensures ∙ sym (unless-refused (c .before .before .bring-refusal .result) (c .before .before .before .args .self) (bringDone (c .before .before .before .args .self) (c .before .before .before .args .m)) (c .before .if1 .taken)))
+
+bring-answer-requires : tie.Need-bring-answer-requires
+bring-answer-requires c κs = bring-place (c .before .before .args .self) (c .before .before .args .m) (sym (c .before .bring-refusal .ensures) ∙ c .if1 .left)
+
+returns-2 : tie.Need-returns-2
+unfolding bringRule unless
+returns-2 c = rw (← c .before .before .bring-refusal .ensures, c .before .if1 .left) (c .bring-answer .ensures)
+
+pub bring-spec : {M : Type 1} → statement M
+bring-spec =
+    tie.close
+    (tie.spec bring-refusal-requires refused-requires returns bring-answer-requires returns-2)

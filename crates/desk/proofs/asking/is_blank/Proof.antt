@@ -1,0 +1,14 @@
+use borrow.Author.Needs.{needs}
+use native.Mathlib.Omega.{arith}
+use Rattle.desk.specs.Desk.{isBlank}
+use Rattle.desk.proofs.asking.is_blank.Statement.{statement}
+use Rattle.desk.proofs.asking.is_blank.Tie as tie
+use Rattle.desk.proofs.asking.is_blank.Reads as reads
+use Rattle.desk.proofs.asking.is_blank.Lts as lts
+
+returns : tie.Need-returns
+unfolding isBlank
+returns c = search needs
+
+pub is-blank-spec : {M : Type 1} → statement M
+is-blank-spec = tie.close (tie.spec returns)

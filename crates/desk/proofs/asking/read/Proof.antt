@@ -1,0 +1,54 @@
+use borrow.Author.Needs.{needs}
+use native.Mathlib.Omega.{arith}
+use Rattle.desk.specs.Rules.{readRule}
+use Rattle.desk.proofs.asking.read.Statement.{statement}
+use Rattle.desk.proofs.asking.read.Tie as tie
+use Rattle.desk.proofs.asking.read.Reads as reads
+use Rattle.desk.proofs.asking.read.Lts as lts
+use Rattle.desk.proofs.asking.asked.Reads as asked-reads
+use Rattle.desk.proofs.asking.is_blank.Reads as is-blank-reads
+use Rattle.desk.proofs.asking.shown_code.Reads as shown-code-reads
+use Rattle.desk.proofs.replied.Reads as replied-reads
+
+mul-x : tie.Need-mul-x
+mul-x c = search needs
+
+element-copy-out-x : tie.Need-element-copy-out-x
+element-copy-out-x c = search needs
+
+is-blank-requires : tie.Need-is-blank-requires
+is-blank-requires c κs = search needs
+
+shown-code-requires : tie.Need-shown-code-requires
+shown-code-requires c κs = search needs
+
+replied-requires : tie.Need-replied-requires
+replied-requires c κs = search needs
+
+returns : tie.Need-returns
+unfolding readRule
+returns c = rw (c .before .before .before .if1 .taken, ← c .before .before .is-blank .ensures, ← c .before .shown-code .ensures) (c .replied .ensures)
+
+cast-t14 : tie.Need-cast-t14
+cast-t14 c = search needs
+
+asked-requires : tie.Need-asked-requires
+asked-requires c κs = search needs
+
+returns-2 : tie.Need-returns-2
+unfolding readRule
+returns-2 c = rw (c .before .if1 .left) (c .asked .ensures)
+
+pub read-spec : {M : Type 1} → statement M
+read-spec =
+    tie.close
+    (tie.spec
+    mul-x
+    element-copy-out-x
+    is-blank-requires
+    shown-code-requires
+    replied-requires
+    returns
+    cast-t14
+    asked-requires
+    returns-2)

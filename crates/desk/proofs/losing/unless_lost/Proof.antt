@@ -1,0 +1,15 @@
+use borrow.Author.Needs.{needs}
+use native.Mathlib.Omega.{arith}
+use Rattle.desk.proofs.losing.unless_lost.Statement.{statement}
+use Rattle.desk.proofs.losing.unless_lost.Tie as tie
+use Rattle.desk.proofs.losing.unless_lost.Reads as reads
+use Rattle.desk.proofs.losing.unless_lost.Lts as lts
+
+returns : tie.Need-returns
+returns c = rw (c .if1 .taken)
+
+returns-2 : tie.Need-returns-2
+returns-2 c = rw (c .if1 .left)
+
+pub unless-lost-spec : {M : Type 1} → statement M
+unless-lost-spec = tie.close (tie.spec returns returns-2)

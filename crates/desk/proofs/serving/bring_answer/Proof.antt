@@ -1,0 +1,68 @@
+use borrow.Author.Needs.{needs}
+use native.Mathlib.Omega.{arith}
+use mathlib.Core.Path.{_≡_, refl, sym, ap, ap₂, _∙_}
+use Rattle.desk.specs.Rules.{brings, bringDone}
+use Rattle.desk.proofs.serving.bring_answer.Statement.{statement}
+use Rattle.desk.proofs.serving.bring_answer.Tie as tie
+use Rattle.desk.proofs.serving.bring_answer.Reads as reads
+use Rattle.desk.proofs.serving.bring_answer.Lts as lts
+use Rattle.clock.proofs.Clock.merge.Reads as merge-reads
+use Rattle.desk.proofs.asking.is_blank.Reads as is-blank-reads
+use Rattle.desk.proofs.asking.shown_code.Reads as shown-code-reads
+use Rattle.desk.proofs.losing.lose.Reads as lose-reads
+use Rattle.desk.proofs.replied.Reads as replied-reads
+use Rattle.desk.proofs.serving.named.Reads as named-reads
+
+cast-c : tie.Need-cast-c
+cast-c c = search needs
+
+mul-others : tie.Need-mul-others
+mul-others c = search needs
+
+array-set-from-others : tie.Need-array-set-from-others
+array-set-from-others c = search needs
+
+lose-requires : tie.Need-lose-requires
+lose-requires c κs = search needs
+
+named-requires : tie.Need-named-requires
+named-requires c κs = search needs
+
+mul-row : tie.Need-mul-row
+mul-row c = search needs
+
+array-set-from-row : tie.Need-array-set-from-row
+array-set-from-row c = search needs
+
+merge-requires : tie.Need-merge-requires
+merge-requires c κs = search needs
+
+is-blank-requires : tie.Need-is-blank-requires
+is-blank-requires c κs = search needs
+
+shown-code-requires : tie.Need-shown-code-requires
+shown-code-requires c κs = search needs
+
+replied-requires : tie.Need-replied-requires
+replied-requires c κs = search needs
+
+returns : tie.Need-returns
+unfolding bringDone brings
+returns c = rw (← c .before .before .before .before .merge .ensures, ← c .before .before .before .before .before .named .ensures, ← c .before .before .before .before .before .before .before .lose .ensures .0, ← c .before .before .before .before .before .before .before .lose .ensures .1, ← c .before .before .is-blank .ensures, ← c .before .shown-code .ensures) (c .replied .ensures)
+
+pub bring-answer-spec : {M : Type 1} → statement M
+bring-answer-spec =
+    tie.close
+    (tie.spec
+    cast-c
+    mul-others
+    array-set-from-others
+    lose-requires
+    named-requires
+    mul-row
+    array-set-from-row
+    merge-requires
+    is-blank-requires
+    shown-code-requires
+    replied-requires
+    returns)

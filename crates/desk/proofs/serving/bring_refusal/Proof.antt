@@ -1,0 +1,50 @@
+use borrow.Author.Needs.{needs}
+use native.Mathlib.Omega.{arith}
+use mathlib.Core.Path.{_≡_, refl, sym, ap, ap₂, _∙_}
+use borrow.Author.Tests.{lt-ltb, le-ltb, le-leb, lt-leb, eq-eqb, ne-eqb, not-true, not-false}
+use Rattle.desk.specs.Rules.{bringRefusal}
+use Rattle.desk.specs.SoundLaws.{sound-rule}
+use Rattle.desk.proofs.serving.bring_refusal.Statement.{statement}
+use Rattle.desk.proofs.serving.bring_refusal.Tie as tie
+use Rattle.desk.proofs.serving.bring_refusal.Reads as reads
+use Rattle.desk.proofs.serving.bring_refusal.Lts as lts
+use Rattle.desk.proofs.serving.fits_bring.Reads as fits-bring-reads
+use Rattle.desk.proofs.sound.sound.Reads as sound-reads
+use Rattle.desk.proofs.sound.waits.Reads as waits-reads
+
+sound-requires : tie.Need-sound-requires
+sound-requires c κs = search needs
+
+returns : tie.Need-returns
+unfolding bringRefusal
+returns c = rw (← c .before .sound .ensures, not-true (c .before .sound .result) (c .if1 .taken))
+
+waits-requires : tie.Need-waits-requires
+waits-requires c κs = search needs
+
+returns-2 : tie.Need-returns-2
+unfolding bringRefusal
+returns-2 c = rw (← c .before .before .before .sound .ensures, not-false (c .before .before .before .sound .result) (c .before .before .if1 .left), ← c .before .waits .ensures, not-true (c .before .waits .result) (c .if2 .taken))
+
+fits-bring-requires : tie.Need-fits-bring-requires
+fits-bring-requires c κs = omega (arith, sound-rule (c .before .before .before .before .args .v) (sym (c .before .before .before .sound .ensures) ∙ not-false (c .before .before .before .sound .result) (c .before .before .if1 .left)) .asked)
+
+returns-3 : tie.Need-returns-3
+unfolding bringRefusal
+returns-3 c = rw (← c .before .before .before .before .before .sound .ensures, not-false (c .before .before .before .before .before .sound .result) (c .before .before .before .before .if1 .left), ← c .before .before .before .waits .ensures, not-false (c .before .before .before .waits .result) (c .before .before .if2 .left), ← c .before .fits-bring .ensures, not-true (c .before .fits-bring .result) (c .if3 .taken))
+
+returns-4 : tie.Need-returns-4
+unfolding bringRefusal
+returns-4 c = rw (← c .before .before .before .before .before .sound .ensures, not-false (c .before .before .before .before .before .sound .result) (c .before .before .before .before .if1 .left), ← c .before .before .before .waits .ensures, not-false (c .before .before .before .waits .result) (c .before .before .if2 .left), ← c .before .fits-bring .ensures, not-false (c .before .fits-bring .result) (c .if3 .left))
+
+pub bring-refusal-spec : {M : Type 1} → statement M
+bring-refusal-spec =
+    tie.close
+    (tie.spec
+    sound-requires
+    returns
+    waits-requires
+    returns-2
+    fits-bring-requires
+    returns-3
+    returns-4)

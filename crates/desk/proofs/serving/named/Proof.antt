@@ -1,0 +1,15 @@
+use borrow.Author.Needs.{needs}
+use native.Mathlib.Omega.{arith}
+use Rattle.desk.proofs.serving.named.Statement.{statement}
+use Rattle.desk.proofs.serving.named.Tie as tie
+use Rattle.desk.proofs.serving.named.Reads as reads
+use Rattle.desk.proofs.serving.named.Lts as lts
+
+returns : tie.Need-returns
+returns c = rw (c .if1 .taken)
+
+returns-2 : tie.Need-returns-2
+returns-2 c = rw (c .if1 .left)
+
+pub named-spec : {M : Type 1} → statement M
+named-spec = tie.close (tie.spec returns returns-2)

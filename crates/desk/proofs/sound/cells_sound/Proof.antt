@@ -1,0 +1,71 @@
+use borrow.Author.Needs.{needs}
+use native.Mathlib.Omega.{arith}
+use mathlib.Core.Path.{_≡_, refl, sym, ap, ap₂, _∙_}
+use mathlib.Core.Bool.{Bool, true, false, not, _&&_, _||_, cond, and-false}
+use mathlib.Core.List.{List}
+use Prim.Native.Nat.{ℕ, _+_, _-_, _≤_, _<_}
+use lib.ListN.{length, drop, getD, set}
+use Rattle.lists.specs.Each.{mapAt, length-mapped}
+use Rattle.lists.specs.Test.{every, mapAt-turn, mapAt-end}
+use Rattle.desk.specs.Desk.{pastEnd}
+use Rattle.desk.specs.Sound.{cellSound, cellsSound}
+use Rattle.desk.proofs.sound.cells_sound.Statement.{statement}
+use Rattle.desk.proofs.sound.cells_sound.Tie as tie
+use Rattle.desk.proofs.sound.cells_sound.Reads as reads
+use Rattle.desk.proofs.sound.cells_sound.Lts as lts
+use Rattle.desk.proofs.sound.cell_sound.Reads as cell-sound-reads
+
+abbrev Inv-loop : tie.InvT-loop
+Inv-loop v ok₀ c₀ ok c = (c ≤ 32)
+    × (every (mapAt (cellSound (v .tray) (v .desk)) (v .row)) ≡ (ok && every (drop c (mapAt (cellSound (v .tray) (v .desk)) (v .row)))))
+
+abbrev μ-loop : tie.MeasureT-loop
+μ-loop v ok₀ c₀ ok c = 32 - c
+
+loop-holds : tie.Need-loop-holds Inv-loop μ-loop
+loop-holds c = (search needs, refl)
+
+mul-cell-sound : tie.Need-mul-cell-sound Inv-loop μ-loop
+mul-cell-sound c = search needs
+
+element-copy-out-cell-sound : tie.Need-element-copy-out-cell-sound Inv-loop μ-loop
+element-copy-out-cell-sound c = search needs
+
+cell-sound-requires : tie.Need-cell-sound-requires Inv-loop μ-loop
+cell-sound-requires c κs = search needs
+
+add-c : tie.Need-add-c Inv-loop μ-loop
+add-c c = search needs
+
+loop-less : tie.Need-loop-less Inv-loop μ-loop
+loop-less c = search needs
+
+loop-again : tie.Need-loop-again Inv-loop μ-loop
+loop-again c =
+    let at-loop = c .before .before .before .before in
+    let v = at-loop .before .args .t1 in
+    let long : length (v .row) ≡ 32 = search (needs, length-mapped) in
+    (omega arith, rw (c .cell-sound .ensures) (mapAt-turn (cellSound (v .tray) (v .desk)) (v .row) pastEnd (at-loop .loop .c) (at-loop .loop .ok) (omega arith) (at-loop .loop .inv .1)))
+
+returns : tie.Need-returns Inv-loop μ-loop
+unfolding cellsSound
+returns c =
+    let at-loop = c .before in
+    let v = at-loop .before .args .t1 in
+    let long : length (v .row) ≡ 32 = search (needs, length-mapped) in
+    sym (mapAt-end (cellSound (v .tray) (v .desk)) (v .row) pastEnd (at-loop .loop .c) (at-loop .loop .ok) (omega arith) (at-loop .loop .inv .1))
+
+pub cells-sound-spec : {M : Type 1} → statement M
+cells-sound-spec =
+    tie.close
+    (tie.spec
+    Inv-loop
+    μ-loop
+    loop-holds
+    mul-cell-sound
+    element-copy-out-cell-sound
+    cell-sound-requires
+    add-c
+    loop-less
+    loop-again
+    returns)

@@ -1,0 +1,42 @@
+use borrow.Author.Needs.{needs}
+use native.Mathlib.Omega.{arith}
+use Rattle.desk.specs.Sound.{slotSound, rowSound}
+use Rattle.desk.proofs.sound.row_sound.Statement.{statement}
+use Rattle.desk.proofs.sound.row_sound.Tie as tie
+use Rattle.desk.proofs.sound.row_sound.Reads as reads
+use Rattle.desk.proofs.sound.row_sound.Lts as lts
+use Rattle.clock.proofs.Clock.within.Reads as within-reads
+use Rattle.desk.proofs.sound.cells_sound.Reads as cells-sound-reads
+use Rattle.desk.proofs.sound.slot_carries.Reads as slot-carries-reads
+use Rattle.desk.proofs.sound.slot_names.Reads as slot-names-reads
+use Rattle.desk.proofs.sound.waits.Reads as waits-reads
+
+slot-names-requires : tie.Need-slot-names-requires
+slot-names-requires c κs = search needs
+
+slot-carries-requires : tie.Need-slot-carries-requires
+slot-carries-requires c κs = search needs
+
+within-requires : tie.Need-within-requires
+within-requires c κs = search needs
+
+cells-sound-requires : tie.Need-cells-sound-requires
+cells-sound-requires c κs = search needs
+
+waits-requires : tie.Need-waits-requires
+waits-requires c κs = search needs
+
+returns : tie.Need-returns
+unfolding rowSound slotSound
+returns c = rw (c .before .waits .ensures, c .before .before .cells-sound .ensures, c .before .before .before .within .ensures, c .before .before .before .before .before .before .slot-carries .ensures, c .before .before .before .before .before .before .before .slot-names .ensures)
+
+pub row-sound-spec : {M : Type 1} → statement M
+row-sound-spec =
+    tie.close
+    (tie.spec
+    slot-names-requires
+    slot-carries-requires
+    within-requires
+    cells-sound-requires
+    waits-requires
+    returns)

@@ -1,0 +1,55 @@
+// What a desk loses when it learns a clock: its copies strictly before that clock.
+ghost use mathlib.Core.Bool.{cond};
+ghost use mathlib.Core.Path.{_≡_};
+ghost use Prim.Native.Nat.{_<_};
+ghost use Rattle.desk.specs.Desk.{noCell, isLost, leftOf, lossOf};
+use crate::Cell;
+use crate::NO_CELL;
+use crate::Tray;
+use crate::sound::keeps;
+use clock::Clock;
+
+// The row that is left, and how many copies were lost.
+pub struct Loss {
+    pub row: [Cell; 32],
+    pub count: u32,
+}
+
+pub fn lose(t: Tray, desk: u8, learnt: Clock, row: [Cell; 32]) -> Loss
+    ensures { λ r. ⌜ (r .row ≡ leftOf t desk learnt row) × (r .count ≡ lossOf t desk learnt row) ⌝ }
+{
+    let mut left = row;
+    let mut count = 0;
+    for c in 0..32 {
+        let lost = is_lost(t, desk, learnt, c, row[c]);
+        left[c] = unless_lost(row[c], lost);
+        count += one_if(lost);
+    }
+    Loss { row: left, count }
+}
+
+fn is_lost(t: Tray, desk: u8, learnt: Clock, c: usize, x: Cell) -> bool
+    requires { ⌜ c < 32 ⌝ }
+    ensures { λ r. ⌜ r ≡ isLost t desk learnt c x ⌝ }
+{
+    if !x.held {
+        return false;
+    }
+    if keeps(t, desk, c) {
+        return false;
+    }
+    let stamp = x.stamp;
+    stamp.before(learnt)
+}
+
+fn unless_lost(x: Cell, lost: bool) -> Cell
+    ensures { λ r. ⌜ r ≡ cond lost noCell x ⌝ }
+{
+    if lost { NO_CELL } else { x }
+}
+
+pub fn one_if(lost: bool) -> u32
+    ensures { λ r. ⌜ r ≡ cond lost 1 0 ⌝ }
+{
+    if lost { 1 } else { 0 }
+}

@@ -1,0 +1,118 @@
+// Whether a record is sound: each condition of 01, joined without branches.
+ghost use mathlib.Core.Path.{_≡_};
+ghost use Prim.Native.Nat.{_<_, _≤_};
+ghost use lib.ListN.{getD};
+ghost use Rattle.desk.specs.Desk.{keeps as keeps·def, waits as waits·def};
+ghost use Rattle.desk.specs.Sound.{keeperSound, traySound, cellSound, cellsSound, slotNames, slotCarries, rowSound, isSound};
+use crate::Cell;
+use crate::Record;
+use crate::Slot;
+use crate::Tray;
+use clock::Clock;
+
+pub fn waits(s: Slot) -> bool
+    ensures { λ r. ⌜ r ≡ waits·def s ⌝ }
+{
+    s.kind != 0
+}
+
+pub fn keeps(t: Tray, desk: u8, c: usize) -> bool
+    requires { ⌜ c < 32 ⌝ }
+    ensures { λ r. ⌜ r ≡ keeps·def t desk c ⌝ }
+{
+    let cells = t.cells as usize;
+    (c < cells) & (t.keepers[c] == desk)
+}
+
+fn keeper_sound(t: Tray, c: usize) -> bool
+    requires { ⌜ c < 32 ⌝ }
+    ensures { λ r. ⌜ r ≡ keeperSound t c (getD (t .keepers) c 0) ⌝ }
+{
+    let cells = t.cells as usize;
+    if c < cells {
+        return t.keepers[c] < t.desks;
+    }
+    t.keepers[c] == 0
+}
+
+pub fn tray_sound(t: Tray) -> bool
+    ensures { λ r. ⌜ r ≡ traySound t ⌝ }
+{
+    let mut ok = (1 <= t.desks) & (t.desks <= 8) & ((1 <= t.cells) & (t.cells <= 32));
+    for c in 0..32 {
+        ok = ok & keeper_sound(t, c);
+    }
+    ok
+}
+
+fn cell_sound(t: Tray, desk: u8, c: usize, x: Cell) -> bool
+    requires { ⌜ c < 32 ⌝ }
+    ensures { λ r. ⌜ r ≡ cellSound t desk c x ⌝ }
+{
+    let stamp = x.stamp;
+    let cells = t.cells as usize;
+    if x.held {
+        return (c < cells) & stamp.within(t.desks);
+    }
+    !keeps(t, desk, c) & (x.word == 0) & stamp.within(0)
+}
+
+fn cells_sound(v: Record) -> bool
+    ensures { λ r. ⌜ r ≡ cellsSound v ⌝ }
+{
+    let mut ok = true;
+    for c in 0..32 {
+        ok = ok & cell_sound(v.tray, v.desk, c, v.row[c]);
+    }
+    ok
+}
+
+fn slot_names(t: Tray, desk: u8, s: Slot) -> bool
+    requires { ⌜ t .cells ≤ 32 ⌝ }
+    ensures { λ r. ⌜ r ≡ slotNames t desk s ⌝ }
+{
+    if !waits(s) {
+        return s.cell == 0;
+    }
+    if t.cells <= s.cell {
+        return false;
+    }
+    let c = s.cell as usize;
+    !keeps(t, desk, c)
+}
+
+fn slot_carries(t: Tray, s: Slot) -> bool
+    ensures { λ r. ⌜ r ≡ slotCarries t s ⌝ }
+{
+    let clock = s.clock;
+    if s.kind <= 1 {
+        return (s.word == 0) & clock.within(0);
+    }
+    clock.within(t.desks)
+}
+
+// A desk's row of the table, where its slot may be answered.
+pub fn row_sound(v: Record) -> bool
+    requires { ⌜ v .tray .cells ≤ 32 ⌝ }
+    ensures { λ r. ⌜ r ≡ rowSound v ⌝ }
+{
+    let t = v.tray;
+    let s = v.slot;
+    let clock = v.clock;
+    let slot_sound = (s.kind <= 4) & slot_names(t, v.desk, s) & slot_carries(t, s);
+    (v.desk < t.desks)
+        & clock.within(t.desks)
+        & cells_sound(v)
+        & slot_sound
+        & (waits(s) | !v.served)
+}
+
+// A desk's own record: a full slot stays asked until the answer is brought.
+pub fn sound(v: Record) -> bool
+    ensures { λ r. ⌜ r ≡ isSound v ⌝ }
+{
+    if !tray_sound(v.tray) {
+        return false;
+    }
+    row_sound(v) & (v.slot.kind <= 2)
+}
