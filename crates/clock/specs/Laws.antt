@@ -1,13 +1,13 @@
 -- Laws on clocks, for clocks of any length. Callers use these and not the definitions' text.
 -- Assumes nothing.
-use mathlib.Core.Path.{_≡_, refl, sym, ap, _∙_}
-use mathlib.Core.Bool.{Bool, true, false, _||_}
+use mathlib.Core.Path.{_≡_, refl, sym, _∙_}
+use mathlib.Core.Bool.{Bool, true, false}
 use mathlib.Core.List.{List, [], _∷_}
 use Prim.Native.Nat.{ℕ, zero, suc, _+_, _≤_, _<_, max}
 use native.Mathlib.Omega.{arith}
 use native.Mathlib.Decide.{ℕ-discrete, decLt}
-use lib.Dec.{leb, ltb, eqb}
-use lib.ListN.{length, getD, List·getD-eq-default}
+use lib.Dec.{leb, ltb}
+use lib.ListN.{length, getD, replicate, getD-replicate, List·getD-eq-default}
 use lib.Seq.{ext-getD, getD-set-same, getD-set-other}
 use borrow.Author.Tests.{ltb-true, leb-true, eqb-true, lt-ltb, le-leb, le-ltb, eq-eqb}
 use Rattle.lists.specs.Test.{every, some, fails, both, both-left, both-right, either, either-left, every-at, every-of, every-mapAt, mapAt-every, some-at, some-of}
@@ -58,6 +58,10 @@ unfolding isWithin
 past-within d c p =
     mapAt-every (zeroPast d) (c .n) 0
     (λ k i. elim (decLt k d) [ yes h ↦ rw (lt-ltb k d h) | no h ↦ either (ltb k d) (eq-eqb (number c k) 0 (p k (omega arith))) ])
+
+pub zero-past : (d : ℕ) → ZeroPast d zeroClock
+zero-past d k h =
+    elim (decLt k 8) [ yes i ↦ getD-replicate 8 k 0 0 i | no i ↦ (let past : 8 ≤ k = omega arith in List·getD-eq-default (replicate 8 0) 0 past) ]
 
 -- ---- merge
 pub merge-at : (a b : Clock) (k : ℕ) → number (merged a b) k ≡ max (number a k) (number b k)
@@ -157,3 +161,6 @@ raised-later c k h =
     is-before c (raised c k) k
     (λ j. elim (ℕ-discrete j k) [ yes e ↦ rw e (omega (arith, raised-at c k h)) | no ne ↦ omega (arith, raised-other c k j ne) ])
     (omega (arith, raised-at c k h))
+
+pub raised-past : (d : ℕ) (c : Clock) (k : ℕ) → k < d → ZeroPast d c → ZeroPast d (raised c k)
+raised-past d c k h p j i = raised-other c k j (omega arith) ∙ p j i

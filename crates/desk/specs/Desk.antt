@@ -1,6 +1,6 @@
 -- The words that 01 uses of a desk, each one definition. A later request that changes a word changes it here.
 -- Assumes nothing.
-use mathlib.Core.Bool.{Bool, true, false, not, _&&_, cond}
+use mathlib.Core.Bool.{Bool, false, not, _&&_, cond}
 use mathlib.Core.List.{List, []}
 use Prim.Native.Nat.{ℕ}
 use lib.Dec.{ltb, eqb}
@@ -11,7 +11,6 @@ use Rattle.lists.specs.Each.{mapAt}
 use Rattle.lists.specs.Sum.{sum}
 use Rattle.desk.specs.declared.Cell.{Cell}
 use Rattle.desk.specs.declared.Message.{Message}
-use Rattle.desk.specs.declared.Reply.{Reply}
 use Rattle.desk.specs.declared.Slot.{Slot}
 use Rattle.desk.specs.declared.Tray.{Tray}
 
@@ -31,6 +30,10 @@ pastEnd = record { held = false; word = 0; stamp = record { n = [] } }
 
 abbrev pub cellAt : List Cell → ℕ → Cell
 cellAt row c = getD row c pastEnd
+
+-- one where the test passes: what is summed to count
+abbrev pub oneIf : Bool → ℕ
+oneIf b = cond b 1 0
 
 -- ---- cells
 -- "A cell has a fixed keeper": the desk keeps cell c
@@ -54,7 +57,7 @@ abbrev pub leftAt : Tray → ℕ → Clock → ℕ → Cell → Cell
 leftAt t desk learnt c x = cond (isLost t desk learnt c x) noCell x
 
 abbrev pub lossAt : Tray → ℕ → Clock → ℕ → Cell → ℕ
-lossAt t desk learnt c x = cond (isLost t desk learnt c x) 1 0
+lossAt t desk learnt c x = oneIf (isLost t desk learnt c x)
 
 unfoldable pub leftOf : Tray → ℕ → Clock → List Cell → List Cell
 leftOf t desk learnt row = mapAt (leftAt t desk learnt) row

@@ -1,13 +1,13 @@
 -- What an event, a request or an answer that is not refused has passed, and that a refusal changes nothing.
 -- Assumes nothing.
-use mathlib.Core.Path.{_≡_, refl, sym, ap, _∙_}
+use mathlib.Core.Path.{_≡_, refl}
 use mathlib.Core.Bool.{Bool, true, false, not, _&&_, _||_, cond}
 use mathlib.Core.Logic.{_⊎_, inl, inr, ⊎-elim}
-use Prim.Native.Nat.{ℕ, zero, suc, _≤_, _<_, _+_}
+use Prim.Native.Nat.{ℕ, zero, suc, _<_, _+_}
 use native.Mathlib.Omega.{arith}
-use borrow.Author.Tests.{ltb-true, leb-true, eqb-true, eqb-false, not-true, not-false, eq-eqb}
-use lib.Dec.{ltb, leb, eqb}
-use Rattle.clock.specs.Clock.{number, isWithin}
+use borrow.Author.Tests.{ltb-true, eqb-true, eqb-false, not-true, not-false, eq-eqb}
+use lib.Dec.{ltb, eqb}
+use Rattle.clock.specs.Clock.{number}
 use Rattle.clock.specs.Laws.{ZeroPast, within-past}
 use Rattle.lists.specs.Test.{both-left, both-right}
 use Rattle.desk.specs.declared.Event.{Event}
@@ -64,7 +64,7 @@ allowed v e p =
       in-range = ltb-true (e .cell) (v .tray .cells) (not-false (ltb (e .cell) (v .tray .cells)) (range .0));
       idle = idle .0;
       not-kept = λ k. not-both (eqb (e .kind) 5) (keeps (v .tray) (v .desk) (e .cell)) (kept .0) (eq-eqb (e .kind) 5 k);
-      below = λ k. eqb-false (number (v .clock) (v .desk)) 4294967295 (not-both (eqb (e .kind) 2) (eqb (number (v .clock) (v .desk)) 4294967295) (limit .0) (eq-eqb (e .kind) 2 k))
+      below = λ k. eqb-false (number (v .clock) (v .desk)) 4294967295 (not-both (eqb (e .kind) 2) (eqb (number (v .clock) (v .desk)) 4294967295) (limit .0) (eq-eqb (e .kind) 2 k));
     }
 
 -- ---- a request
@@ -88,7 +88,7 @@ served v m p =
       kind = ⊎-elim (λ a. inl (eqb-true (m .kind) 1 a)) (λ b. inr (eqb-true (m .kind) 2 b)) (either-is (eqb (m .kind) 1) (eqb (m .kind) 2) (search (both-left, both-right)));
       desk = ltb-true (m .desk) (v .tray .desks) (search (both-left, both-right));
       other = eqb-false (m .desk) (v .desk) (not-true (eqb (m .desk) (v .desk)) (search (both-left, both-right)));
-      kept = search (both-left, both-right)
+      kept = search (both-left, both-right);
     }
 
 -- ---- an answer
@@ -113,7 +113,7 @@ brought v m p =
       clock = within-past (v .tray .desks) (m .clock) (search (both-left, both-right));
       desk = eqb-true (m .desk) (v .desk) (search (both-left, both-right));
       cell = eqb-true (m .cell) (v .slot .cell) (search (both-left, both-right));
-      kind = eqb-true (m .kind) (v .slot .kind + 2) (search (both-left, both-right))
+      kind = eqb-true (m .kind) (v .slot .kind + 2) (search (both-left, both-right));
     }
 
 -- ---- so every place that is named is there
@@ -125,9 +125,10 @@ event-place v e p = let a = allowed v e p in omega (arith, a .in-range, sound-ru
 
 pub serve-place : (v : Record) (m : Message) → serveRefusal v m ≡ 0 → (m .cell < 32) × (m .kind < 3)
 serve-place v m p =
-    let s = served v m p in
-    (omega (arith, keeps-in (v .tray) (v .desk) (m .cell) (s .kept), sound-rule v (s .sound) .tray-is .cells-most),
-     ⊎-elim (λ k. omega arith) (λ k. omega arith) (s .kind))
+    let s = served v m p in (
+      omega (arith, keeps-in (v .tray) (v .desk) (m .cell) (s .kept), sound-rule v (s .sound) .tray-is .cells-most),
+      ⊎-elim (λ k. omega arith) (λ k. omega arith) (s .kind),
+    )
 
 pub bring-place : (v : Record) (m : Message) → bringRefusal v m ≡ 0 → m .cell < 32
 bring-place v m p =

@@ -2,7 +2,7 @@
 -- Assumes nothing.
 use mathlib.Core.Bool.{Bool, true, false, not, _&&_, _||_, cond}
 use Prim.Native.Nat.{ℕ, zero, suc, _+_}
-use lib.Dec.{ltb, leb, eqb}
+use lib.Dec.{ltb, eqb}
 use lib.ListN.{set}
 use Rattle.clock.specs.declared.Clock.{Clock}
 use Rattle.clock.specs.Clock.{number, zeroClock, merged, raised, isWithin}
@@ -10,10 +10,9 @@ use Rattle.desk.specs.declared.Cell.{Cell}
 use Rattle.desk.specs.declared.Event.{Event}
 use Rattle.desk.specs.declared.Message.{Message}
 use Rattle.desk.specs.declared.Record.{Record}
-use Rattle.desk.specs.declared.Reply.{Reply}
 use Rattle.desk.specs.declared.Slot.{Slot}
 use Rattle.desk.specs.declared.Step.{Step}
-use Rattle.desk.specs.Desk.{noCell, noSlot, noMessage, cellAt, keeps, isCopy, isBlank, leftOf, lossOf, waits}
+use Rattle.desk.specs.Desk.{noCell, noSlot, noMessage, cellAt, oneIf, keeps, isCopy, isBlank, leftOf, lossOf, waits}
 use Rattle.desk.specs.Sound.{isSound}
 
 -- ---- what may happen to a record
@@ -58,21 +57,27 @@ unless (suc n) v s = replied (suc n) 0 0 noMessage v
 abbrev pub asks : Record → Slot → Step
 asks v s = replied 1 0 0 (slotMessage v s) (withSlot v s false)
 
+abbrev pub readAsked : ℕ → Slot
+readAsked c = record { kind = 1; cell = c; word = 0; clock = zeroClock }
+
+abbrev pub writeAsked : ℕ → ℕ → Clock → Slot
+writeAsked c w sent = record { kind = 2; cell = c; word = w; clock = sent }
+
 -- ---- 1 Read, 2 Write, 5 Drop
 unfoldable pub readRule : Record → ℕ → Step
 readRule v c =
     cond (cellAt (v .row) c .held)
     (replied (shownCode (isBlank (cellAt (v .row) c .word) (cellAt (v .row) c .stamp))) (cellAt (v .row) c .word) 0 noMessage v)
-    (asks v (record { kind = 1; cell = c; word = 0; clock = zeroClock }))
+    (asks v (readAsked c))
 
 unfoldable pub writeRule : Record → ℕ → ℕ → Step
 writeRule v c w =
     cond (keeps (v .tray) (v .desk) c)
     (replied 0 w 0 noMessage (stores (withClock v (raised (v .clock) (v .desk))) c w))
-    (asks v (record { kind = 2; cell = c; word = w; clock = raised (v .clock) (v .desk) }))
+    (asks v (writeAsked c w (raised (v .clock) (v .desk))))
 
 unfoldable pub dropRule : Record → ℕ → Step
-dropRule v c = replied 0 0 (cond (isCopy (v .tray) (v .desk) c (cellAt (v .row) c)) 1 0) noMessage (holds v c noCell)
+dropRule v c = replied 0 0 (oneIf (isCopy (v .tray) (v .desk) c (cellAt (v .row) c))) noMessage (holds v c noCell)
 
 -- the refusals of an event, in their order
 unfoldable pub eventRefusal : Record → Event → ℕ

@@ -1,9 +1,8 @@
 -- When a desk's record is sound, as a test. `Laws` has it as a rule at each place, and back.
 -- Assumes nothing.
-use mathlib.Core.Bool.{Bool, true, false, not, _&&_, _||_, cond}
+use mathlib.Core.Bool.{Bool, not, _&&_, _||_, cond}
 use Prim.Native.Nat.{ℕ}
 use lib.Dec.{ltb, leb, eqb}
-use Rattle.clock.specs.declared.Clock.{Clock}
 use Rattle.clock.specs.Clock.{isWithin}
 use Rattle.lists.specs.Each.{mapAt}
 use Rattle.lists.specs.Test.{every}

@@ -6,11 +6,10 @@ use Prim.Native.Nat.{ℕ, _≤_, _<_, zero-le}
 use native.Mathlib.Decide.{decLe}
 use native.Mathlib.Omega.{arith}
 use borrow.Author.Tests.{ltb-true, leb-true, eqb-true, lt-ltb, le-leb, lt-leb, eq-eqb, not-true}
-use lib.Dec.{ltb, leb, eqb}
+use lib.Dec.{ltb, eqb}
 use lib.ListN.{length, getD}
 use Rattle.clock.specs.Clock.{isWithin}
 use Rattle.clock.specs.Laws.{ZeroPast, within-past, past-within}
-use Rattle.lists.specs.Each.{mapAt}
 use Rattle.lists.specs.Test.{fails, both, both-left, both-right, every-mapAt, mapAt-every}
 use Rattle.desk.specs.declared.Cell.{Cell}
 use Rattle.desk.specs.declared.Record.{Record}
@@ -35,7 +34,7 @@ tray-rule t e =
       desks-most = leb-true (t .desks) 8 (search (both-left, both-right));
       some-cell = leb-true 1 (t .cells) (search (both-left, both-right));
       cells-most = leb-true (t .cells) 32 (search (both-left, both-right));
-      keeper-is = every-mapAt (keeperSound t) (t .keepers) 0 (search (both-left, both-right))
+      keeper-is = every-mapAt (keeperSound t) (t .keepers) 0 (search (both-left, both-right));
     }
 
 pub rule-tray : (t : Tray) → TrayRule t → traySound t ≡ true
@@ -58,7 +57,7 @@ pub record CellRule (t : Tray) (desk c : ℕ) (x : Cell) : Type 0 where
   pub no-word : x .held ≡ false → x .word ≡ 0
   pub no-stamp : x .held ≡ false → ZeroPast 0 (x .stamp)
 
-no-way : {A : Type 0} (b : Bool) → b ≡ true → b ≡ false → A
+pub no-way : {A : Type 0} (b : Bool) → b ≡ true → b ≡ false → A
 no-way b p q = let z : _≡_ {A = ℕ} 0 1 = cc in absurd (omega arith)
 
 pub cell-rule : (t : Tray) (desk c : ℕ) (x : Cell) → cellSound t desk c x ≡ true → CellRule t desk c x
@@ -73,7 +72,7 @@ cell-rule t desk c x e = go (x .held) refl
           keeper-holds = λ _. p;
           stamp-past = within-past (t .desks) (x .stamp) (search (both-left, both-right));
           no-word = λ q. no-way (x .held) p q;
-          no-stamp = λ q. no-way (x .held) p q
+          no-stamp = λ q. no-way (x .held) p q;
         }
     go false p =
         let none : (not (keeps t desk c) && eqb (x .word) 0 && isWithin 0 (x .stamp)) ≡ true = rw p at e in
@@ -83,7 +82,7 @@ cell-rule t desk c x e = go (x .held) refl
           keeper-holds = λ q. no-way (keeps t desk c) q (not-true (keeps t desk c) (search (both-left, both-right)));
           stamp-past = λ k _. zeros k zero-le;
           no-word = λ _. eqb-true (x .word) 0 (search (both-left, both-right));
-          no-stamp = λ _. zeros
+          no-stamp = λ _. zeros;
         }
 
 pub rule-cell : (t : Tray) (desk c : ℕ) (x : Cell) → CellRule t desk c x → cellSound t desk c x ≡ true
@@ -117,7 +116,7 @@ slot-rule t desk s e =
       no-cell = λ w. eqb-true (s .cell) 0 (rw w at names);
       clock-past = λ k h. elim (decLe (s .kind) 1) [ yes l ↦ no-clock l k zero-le | no l ↦ within-past (t .desks) (s .clock) (rw (lt-leb (s .kind) 1 (omega arith)) at carries) k h ];
       no-word = λ l. eqb-true (s .word) 0 (both-left (eqb (s .word) 0) (isWithin 0 (s .clock)) (rw (le-leb (s .kind) 1 l) at carries));
-      no-clock = no-clock
+      no-clock = no-clock;
     }
   where
     names : slotNames t desk s ≡ true
@@ -139,9 +138,9 @@ rule-slot t desk s r = both (both (le-leb (s .kind) 4 (r .kind-most)) (names (wa
 
     carries : slotCarries t s ≡ true
     carries =
-        elim (decLe (s .kind) 1)
-        [ yes l ↦ rw (le-leb (s .kind) 1 l) (both (eq-eqb (s .word) 0 (r .no-word l)) (past-within 0 (s .clock) (r .no-clock l)))
-        | no l ↦ rw (lt-leb (s .kind) 1 (omega arith)) (past-within (t .desks) (s .clock) (r .clock-past))
+        elim (decLe (s .kind) 1) [
+          | yes l ↦ rw (le-leb (s .kind) 1 l) (both (eq-eqb (s .word) 0 (r .no-word l)) (past-within 0 (s .clock) (r .no-clock l)))
+          | no l ↦ rw (lt-leb (s .kind) 1 (omega arith)) (past-within (t .desks) (s .clock) (r .clock-past))
         ]
 
 -- ---- a desk's row of the table, and its own record
@@ -160,7 +159,7 @@ row-rule v e =
       clock-past = within-past (v .tray .desks) (v .clock) (search (both-left, both-right));
       cell-is = λ c h. cell-rule (v .tray) (v .desk) c (cellAt (v .row) c) (every-mapAt (cellSound (v .tray) (v .desk)) (v .row) pastEnd (search (both-left, both-right)) c h);
       slot-is = slot-rule (v .tray) (v .desk) (v .slot) (search (both-left, both-right));
-      served-waits = λ on. or-not (waits (v .slot)) (v .served) on (search (both-left, both-right))
+      served-waits = λ on. or-not (waits (v .slot)) (v .served) on (search (both-left, both-right));
     }
   where
     or-not : (a b : Bool) → b ≡ true → (a || not b) ≡ true → a ≡ true
@@ -192,7 +191,7 @@ sound-rule v e =
     record {
       tray-is = tray-rule (v .tray) (search (both-left, both-right));
       row-is = row-rule v (search (both-left, both-right));
-      asked = leb-true (v .slot .kind) 2 (search (both-left, both-right))
+      asked = leb-true (v .slot .kind) 2 (search (both-left, both-right));
     }
 
 pub rule-sound : (v : Record) → SoundRule v → isSound v ≡ true

@@ -21,7 +21,7 @@ use crate::sound::waits;
 use clock::Clock;
 
 // The first refusal that applies, in the order of 01's table; 0 where none does.
-pub fn refusal(v: Record, e: Event) -> u32
+pub(crate) fn refusal(v: Record, e: Event) -> u32
     ensures { λ r. ⌜ r ≡ eventRefusal v e ⌝ }
 {
     let kind = e.kind;
@@ -51,7 +51,7 @@ pub fn refusal(v: Record, e: Event) -> u32
 }
 
 // A held cell is shown; for another its keeper is asked.
-pub fn read(v: Record, c: usize) -> Step
+pub(crate) fn read(v: Record, c: usize) -> Step
     requires { ⌜ c < 32 ⌝ }
     ensures { λ r. ⌜ r ≡ readRule v c ⌝ }
 {
@@ -71,7 +71,7 @@ pub fn read(v: Record, c: usize) -> Step
 }
 
 // The keeper stores its word under its next number; another desk sends that number and does not take it as its own yet.
-pub fn write(v: Record, c: usize, word: u32) -> Step
+pub(crate) fn write(v: Record, c: usize, word: u32) -> Step
     requires { ⌜ (c < 32) × (v .desk < 8) × (number (v .clock) (v .desk) < 4294967295) ⌝ }
     ensures { λ r. ⌜ r ≡ writeRule v c word ⌝ }
 {
@@ -100,7 +100,7 @@ pub fn write(v: Record, c: usize, word: u32) -> Step
 }
 
 // The desk gives up its copy, if it has one.
-pub fn give_up(v: Record, c: usize) -> Step
+pub(crate) fn give_up(v: Record, c: usize) -> Step
     requires { ⌜ c < 32 ⌝ }
     ensures { λ r. ⌜ r ≡ dropRule v c ⌝ }
 {
@@ -136,13 +136,13 @@ fn asked(v: Record, s: Slot) -> Step
     }
 }
 
-pub fn is_blank(word: u32, stamp: Clock) -> bool
+pub(crate) fn is_blank(word: u32, stamp: Clock) -> bool
     ensures { λ r. ⌜ r ≡ isBlank word stamp ⌝ }
 {
     word == 0
 }
 
-pub fn shown_code(blank: bool) -> u32
+pub(crate) fn shown_code(blank: bool) -> u32
     ensures { λ r. ⌜ r ≡ shownCode blank ⌝ }
 {
     if blank { 2 } else { 0 }

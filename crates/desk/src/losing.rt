@@ -2,7 +2,7 @@
 ghost use mathlib.Core.Bool.{cond};
 ghost use mathlib.Core.Path.{_≡_};
 ghost use Prim.Native.Nat.{_<_};
-ghost use Rattle.desk.specs.Desk.{noCell, isLost, leftOf, lossOf};
+ghost use Rattle.desk.specs.Desk.{noCell, oneIf, isLost, leftOf, lossOf};
 use crate::Cell;
 use crate::NO_CELL;
 use crate::Tray;
@@ -15,7 +15,7 @@ pub struct Loss {
     pub count: u32,
 }
 
-pub fn lose(t: Tray, desk: u8, learnt: Clock, row: [Cell; 32]) -> Loss
+pub(crate) fn lose(t: Tray, desk: u8, learnt: Clock, row: [Cell; 32]) -> Loss
     ensures { λ r. ⌜ (r .row ≡ leftOf t desk learnt row) × (r .count ≡ lossOf t desk learnt row) ⌝ }
 {
     let mut left = row;
@@ -48,8 +48,8 @@ fn unless_lost(x: Cell, lost: bool) -> Cell
     if lost { NO_CELL } else { x }
 }
 
-pub fn one_if(lost: bool) -> u32
-    ensures { λ r. ⌜ r ≡ cond lost 1 0 ⌝ }
+pub(crate) fn one_if(lost: bool) -> u32
+    ensures { λ r. ⌜ r ≡ oneIf lost ⌝ }
 {
     if lost { 1 } else { 0 }
 }

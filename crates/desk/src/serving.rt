@@ -25,59 +25,59 @@ fn of_tray(v: Record, m: Message) -> bool
     (m.desks == v.tray.desks) & clock.within(v.tray.desks)
 }
 
-fn fits_serve(v: Record, m: Message) -> bool
-    requires { ⌜ v .tray .cells ≤ 32 ⌝ }
-    ensures { λ r. ⌜ r ≡ fitsServe v m ⌝ }
+fn fits_serve(keeper: Record, m: Message) -> bool
+    requires { ⌜ keeper .tray .cells ≤ 32 ⌝ }
+    ensures { λ r. ⌜ r ≡ fitsServe keeper m ⌝ }
 {
-    if v.tray.cells <= m.cell {
+    if keeper.tray.cells <= m.cell {
         return false;
     }
     let c = m.cell as usize;
-    of_tray(v, m)
+    of_tray(keeper, m)
         & ((m.kind == 1) | (m.kind == 2))
-        & ((m.desk < v.tray.desks) & (m.desk != v.desk))
-        & keeps(v.tray, v.desk, c)
+        & ((m.desk < keeper.tray.desks) & (m.desk != keeper.desk))
+        & keeps(keeper.tray, keeper.desk, c)
 }
 
-pub fn serve_refusal(v: Record, m: Message) -> u32
-    ensures { λ r. ⌜ r ≡ serveRefusal v m ⌝ }
+pub(crate) fn serve_refusal(keeper: Record, m: Message) -> u32
+    ensures { λ r. ⌜ r ≡ serveRefusal keeper m ⌝ }
 {
-    if !sound(v) {
+    if !sound(keeper) {
         return 9;
     }
-    if !fits_serve(v, m) {
+    if !fits_serve(keeper, m) {
         return 15;
     }
     0
 }
 
-pub fn answer_read(v: Record, m: Message) -> Step
+pub(crate) fn answer_read(keeper: Record, m: Message) -> Step
     requires { ⌜ (m .cell < 32) × (m .kind < 3) ⌝ }
-    ensures { λ r. ⌜ r ≡ readServed v m ⌝ }
+    ensures { λ r. ⌜ r ≡ readServed keeper m ⌝ }
 {
     let c = m.cell as usize;
-    let x = v.row[c];
-    answered(v, m, x.word, x.stamp, 0)
+    let x = keeper.row[c];
+    answered(keeper, m, x.word, x.stamp, 0)
 }
 
-pub fn take_write(v: Record, m: Message) -> Step
+pub(crate) fn take_write(keeper: Record, m: Message) -> Step
     requires { ⌜ (m .cell < 32) × (m .kind < 3) ⌝ }
-    ensures { λ r. ⌜ r ≡ writeServed v m ⌝ }
+    ensures { λ r. ⌜ r ≡ writeServed keeper m ⌝ }
 {
     let c = m.cell as usize;
-    let stamp = v.clock.merge(m.clock);
-    let held = v.row;
-    let loss = lose(v.tray, v.desk, m.clock, held);
+    let stamp = keeper.clock.merge(m.clock);
+    let held = keeper.row;
+    let loss = lose(keeper.tray, keeper.desk, m.clock, held);
     let mut row = loss.row;
     row[c] = Cell {
         held: true,
         word: m.word,
         stamp,
     };
-    let mut after = v;
+    let mut after = keeper;
     after.clock = stamp;
     after.row = row;
-    after.served = v.served | waits(v.slot);
+    after.served = keeper.served | waits(keeper.slot);
     answered(after, m, m.word, stamp, loss.count)
 }
 
@@ -111,7 +111,7 @@ fn fits_bring(v: Record, m: Message) -> bool
     of_tray(v, m) & ((m.desk == v.desk) & (m.cell == v.slot.cell) & (m.kind == kind))
 }
 
-pub fn bring_refusal(v: Record, m: Message) -> u32
+pub(crate) fn bring_refusal(v: Record, m: Message) -> u32
     ensures { λ r. ⌜ r ≡ bringRefusal v m ⌝ }
 {
     if !sound(v) {
@@ -126,7 +126,7 @@ pub fn bring_refusal(v: Record, m: Message) -> u32
     0
 }
 
-pub fn bring_answer(v: Record, m: Message) -> Step
+pub(crate) fn bring_answer(v: Record, m: Message) -> Step
     requires { ⌜ m .cell < 32 ⌝ }
     ensures { λ r. ⌜ r ≡ bringDone v m ⌝ }
 {

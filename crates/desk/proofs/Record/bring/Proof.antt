@@ -1,15 +1,11 @@
+-- `desk::Record::bring` meets its contract: the refusal first, then the rule.
+-- Assumes nothing.
 use borrow.Author.Needs.{needs}
-use native.Mathlib.Omega.{arith}
-use mathlib.Core.Path.{_≡_, refl, sym, ap, ap₂, _∙_}
+use mathlib.Core.Path.{sym, _∙_}
 use Rattle.desk.specs.Rules.{unless, bringDone, bringRule}
 use Rattle.desk.specs.RuleLaws.{unless-refused, bring-place}
 use Rattle.desk.proofs.Record.bring.Statement.{statement}
 use Rattle.desk.proofs.Record.bring.Tie as tie
-use Rattle.desk.proofs.Record.bring.Reads as reads
-use Rattle.desk.proofs.Record.bring.Lts as lts
-use Rattle.desk.proofs.refused.Reads as refused-reads
-use Rattle.desk.proofs.serving.bring_answer.Reads as bring-answer-reads
-use Rattle.desk.proofs.serving.bring_refusal.Reads as bring-refusal-reads
 
 bring-refusal-requires : tie.Need-bring-refusal-requires
 bring-refusal-requires c κs = search needs

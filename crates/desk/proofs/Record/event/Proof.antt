@@ -1,7 +1,10 @@
+-- `desk::Record::event` meets its contract: a refusal that is not 0 gives the number back, and 0 leaves the kind to choose the rule.
+-- That the place of the cell is there, and that a number can be raised, is what a refusal of 0 has shown.
+-- Assumes nothing.
 use borrow.Author.Needs.{needs}
 use native.Mathlib.Omega.{arith}
-use mathlib.Core.Path.{_≡_, refl, sym, ap, ap₂, _∙_}
-use borrow.Author.Tests.{lt-ltb, le-ltb, le-leb, lt-leb, eq-eqb, ne-eqb, not-true, not-false}
+use mathlib.Core.Path.{sym, _∙_}
+use borrow.Author.Tests.{eq-eqb, ne-eqb}
 use mir.Syntax.{w32}
 use mir.Val.{Fits}
 use Rattle.clock.specs.Clock.{number}
@@ -9,13 +12,6 @@ use Rattle.desk.specs.Rules.{unless, eventDone, eventRule}
 use Rattle.desk.specs.RuleLaws.{unless-refused, allowed, desk-below, event-place}
 use Rattle.desk.proofs.Record.event.Statement.{statement}
 use Rattle.desk.proofs.Record.event.Tie as tie
-use Rattle.desk.proofs.Record.event.Reads as reads
-use Rattle.desk.proofs.Record.event.Lts as lts
-use Rattle.desk.proofs.asking.give_up.Reads as give-up-reads
-use Rattle.desk.proofs.asking.read.Reads as read-reads
-use Rattle.desk.proofs.asking.refusal.Reads as refusal-reads
-use Rattle.desk.proofs.asking.write.Reads as write-reads
-use Rattle.desk.proofs.refused.Reads as refused-reads
 
 refusal-requires : tie.Need-refusal-requires
 refusal-requires c κs = search needs

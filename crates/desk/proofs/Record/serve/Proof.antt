@@ -1,17 +1,12 @@
+-- `desk::Record::serve` meets its contract: the refusal first, then the rule for the kind of request.
+-- Assumes nothing.
 use borrow.Author.Needs.{needs}
-use native.Mathlib.Omega.{arith}
-use mathlib.Core.Path.{_≡_, refl, sym, ap, ap₂, _∙_}
-use borrow.Author.Tests.{lt-ltb, le-ltb, le-leb, lt-leb, eq-eqb, ne-eqb, not-true, not-false}
-use Rattle.desk.specs.Rules.{unless, readServed, writeServed, serveRule}
+use mathlib.Core.Path.{sym, _∙_}
+use borrow.Author.Tests.{eq-eqb, ne-eqb}
+use Rattle.desk.specs.Rules.{unless, serveRule}
 use Rattle.desk.specs.RuleLaws.{unless-refused, serve-place}
 use Rattle.desk.proofs.Record.serve.Statement.{statement}
 use Rattle.desk.proofs.Record.serve.Tie as tie
-use Rattle.desk.proofs.Record.serve.Reads as reads
-use Rattle.desk.proofs.Record.serve.Lts as lts
-use Rattle.desk.proofs.refused.Reads as refused-reads
-use Rattle.desk.proofs.serving.answer_read.Reads as answer-read-reads
-use Rattle.desk.proofs.serving.serve_refusal.Reads as serve-refusal-reads
-use Rattle.desk.proofs.serving.take_write.Reads as take-write-reads
 
 serve-refusal-requires : tie.Need-serve-refusal-requires
 serve-refusal-requires c κs = search needs

@@ -1,14 +1,10 @@
+-- `desk::asking::give_up` meets its contract.
+-- Assumes nothing.
 use borrow.Author.Needs.{needs}
-use native.Mathlib.Omega.{arith}
 use Rattle.desk.specs.Desk.{isCopy}
 use Rattle.desk.specs.Rules.{dropRule}
 use Rattle.desk.proofs.asking.give_up.Statement.{statement}
 use Rattle.desk.proofs.asking.give_up.Tie as tie
-use Rattle.desk.proofs.asking.give_up.Reads as reads
-use Rattle.desk.proofs.asking.give_up.Lts as lts
-use Rattle.desk.proofs.losing.one_if.Reads as one-if-reads
-use Rattle.desk.proofs.replied.Reads as replied-reads
-use Rattle.desk.proofs.sound.keeps.Reads as keeps-reads
 
 mul-x : tie.Need-mul-x
 mul-x c = search needs

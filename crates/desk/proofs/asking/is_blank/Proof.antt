@@ -1,10 +1,9 @@
+-- `desk::asking::is_blank` meets its contract.
+-- Assumes nothing.
 use borrow.Author.Needs.{needs}
-use native.Mathlib.Omega.{arith}
 use Rattle.desk.specs.Desk.{isBlank}
 use Rattle.desk.proofs.asking.is_blank.Statement.{statement}
 use Rattle.desk.proofs.asking.is_blank.Tie as tie
-use Rattle.desk.proofs.asking.is_blank.Reads as reads
-use Rattle.desk.proofs.asking.is_blank.Lts as lts
 
 returns : tie.Need-returns
 unfolding isBlank

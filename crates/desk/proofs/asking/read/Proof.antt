@@ -1,14 +1,9 @@
+-- `desk::asking::read` meets its contract: the cell is held, or it is not.
+-- Assumes nothing.
 use borrow.Author.Needs.{needs}
-use native.Mathlib.Omega.{arith}
 use Rattle.desk.specs.Rules.{readRule}
 use Rattle.desk.proofs.asking.read.Statement.{statement}
 use Rattle.desk.proofs.asking.read.Tie as tie
-use Rattle.desk.proofs.asking.read.Reads as reads
-use Rattle.desk.proofs.asking.read.Lts as lts
-use Rattle.desk.proofs.asking.asked.Reads as asked-reads
-use Rattle.desk.proofs.asking.is_blank.Reads as is-blank-reads
-use Rattle.desk.proofs.asking.shown_code.Reads as shown-code-reads
-use Rattle.desk.proofs.replied.Reads as replied-reads
 
 mul-x : tie.Need-mul-x
 mul-x c = search needs

@@ -1,17 +1,14 @@
+-- `desk::asking::refusal` meets its contract: each return rewrites with the tests that led there, in the order of the table.
+-- Assumes nothing.
 use borrow.Author.Needs.{needs}
 use native.Mathlib.Omega.{arith}
-use mathlib.Core.Path.{_≡_, refl, sym, ap, ap₂, _∙_}
-use borrow.Author.Tests.{lt-ltb, le-ltb, le-leb, lt-leb, eq-eqb, ne-eqb, not-true, not-false}
+use mathlib.Core.Path.{sym, _∙_}
+use borrow.Author.Tests.{lt-ltb, le-ltb, not-true, not-false}
 use Rattle.desk.specs.RuleLaws.{desk-below}
 use Rattle.desk.specs.Rules.{eventRefusal}
 use Rattle.desk.specs.SoundLaws.{sound-rule}
 use Rattle.desk.proofs.asking.refusal.Statement.{statement}
 use Rattle.desk.proofs.asking.refusal.Tie as tie
-use Rattle.desk.proofs.asking.refusal.Reads as reads
-use Rattle.desk.proofs.asking.refusal.Lts as lts
-use Rattle.desk.proofs.sound.keeps.Reads as keeps-reads
-use Rattle.desk.proofs.sound.sound.Reads as sound-reads
-use Rattle.desk.proofs.sound.waits.Reads as waits-reads
 
 cast-cells : tie.Need-cast-cells
 cast-cells c = search needs

@@ -1,14 +1,10 @@
+-- `desk::asking::write` meets its contract: the desk keeps the cell, or it does not.
+-- Assumes nothing.
 use borrow.Author.Needs.{needs}
-use native.Mathlib.Omega.{arith}
 use Rattle.clock.specs.Clock.{raised}
 use Rattle.desk.specs.Rules.{writeRule}
 use Rattle.desk.proofs.asking.write.Statement.{statement}
 use Rattle.desk.proofs.asking.write.Tie as tie
-use Rattle.desk.proofs.asking.write.Reads as reads
-use Rattle.desk.proofs.asking.write.Lts as lts
-use Rattle.desk.proofs.asking.asked.Reads as asked-reads
-use Rattle.desk.proofs.replied.Reads as replied-reads
-use Rattle.desk.proofs.sound.keeps.Reads as keeps-reads
 
 cast-desk : tie.Need-cast-desk
 cast-desk c = search needs

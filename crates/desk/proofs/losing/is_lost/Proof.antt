@@ -1,13 +1,10 @@
+-- `desk::losing::is_lost` meets its contract: at each return the tests say which part of the conjunction decides.
+-- Assumes nothing.
 use borrow.Author.Needs.{needs}
-use native.Mathlib.Omega.{arith}
-use borrow.Author.Tests.{lt-ltb, le-ltb, le-leb, lt-leb, eq-eqb, ne-eqb, not-true, not-false}
+use borrow.Author.Tests.{not-true, not-false}
 use Rattle.desk.specs.Desk.{isCopy, isLost}
 use Rattle.desk.proofs.losing.is_lost.Statement.{statement}
 use Rattle.desk.proofs.losing.is_lost.Tie as tie
-use Rattle.desk.proofs.losing.is_lost.Reads as reads
-use Rattle.desk.proofs.losing.is_lost.Lts as lts
-use Rattle.clock.proofs.Clock.before.Reads as before-reads
-use Rattle.desk.proofs.sound.keeps.Reads as keeps-reads
 
 returns : tie.Need-returns
 unfolding isLost isCopy

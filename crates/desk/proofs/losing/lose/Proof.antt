@@ -1,9 +1,12 @@
+-- `desk::losing::lose` meets its contract. The loop's invariant: the places passed have what is left of each cell, and the sum over all
+-- places is the count so far with what is left of the row.
+-- Assumes nothing.
 use borrow.Author.Needs.{needs}
 use native.Mathlib.Omega.{arith}
 use mathlib.Core.Path.{_≡_, refl, sym, ap, ap₂, _∙_}
-use mathlib.Core.Bool.{Bool, true, false, not, _&&_, _||_, cond}
+use mathlib.Core.Bool.{Bool, true, false, cond}
 use mathlib.Core.List.{List}
-use Prim.Native.Nat.{ℕ, _+_, _-_, _≤_, _<_}
+use Prim.Native.Nat.{ℕ, _+_, _-_, _≤_}
 use lib.ListN.{length, drop, set}
 use native.Mathlib.Nat.{zero-add}
 use Rattle.clock.specs.declared.Clock.{Clock}
@@ -12,20 +15,15 @@ use Rattle.lists.specs.Replaced.{upTo, upTo-step, upTo-mapAt}
 use Rattle.lists.specs.Sum.{sum, count-turn, count-end}
 use Rattle.desk.specs.declared.Cell.{Cell}
 use Rattle.desk.specs.declared.Tray.{Tray}
-use Rattle.desk.specs.Desk.{noCell, pastEnd, cellAt, leftAt, lossAt, leftOf, lossOf}
+use Rattle.desk.specs.Desk.{noCell, oneIf, pastEnd, cellAt, leftAt, lossAt, leftOf, lossOf}
 use Rattle.desk.proofs.losing.lose.Statement.{statement}
 use Rattle.desk.proofs.losing.lose.Tie as tie
-use Rattle.desk.proofs.losing.lose.Reads as reads
-use Rattle.desk.proofs.losing.lose.Lts as lts
-use Rattle.desk.proofs.losing.is_lost.Reads as is-lost-reads
-use Rattle.desk.proofs.losing.one_if.Reads as one-if-reads
-use Rattle.desk.proofs.losing.unless_lost.Reads as unless-lost-reads
 
--- what the loop puts at place k
-one-if-le : (b : Bool) → cond b 1 0 ≤ 1
+one-if-le : (b : Bool) → oneIf b ≤ 1
 one-if-le true = search needs
 one-if-le false = search needs
 
+-- what the loop puts at place k
 abbrev left-at : Tray → ℕ → Clock → List Cell → ℕ → Cell
 left-at t desk learnt row k = leftAt t desk learnt k (cellAt row k)
 
@@ -84,12 +82,13 @@ loop-again c =
     let i = at-loop .loop .c in
     let here = cellAt (a .t4) i in
     let long : length (a .t4) ≡ 32 = search (needs, length-mapped) in
-    let lost = c .before .before .before .is-lost .ensures in
-    (omega arith,
-     omega (arith, c .one-if .ensures, one-if-le (c .before .before .before .is-lost .result)),
-     ap₂ (λ (l : List Cell) (x : Cell). set l i x) (at-loop .loop .inv .2) (c .before .unless-lost .ensures ∙ ap (λ (b : Bool). cond b noCell here) lost)
-       ∙ upTo-step (left-at (a .t) (a .desk) (a .learnt) (a .t4)) i (a .t4),
-     rw (c .one-if .ensures, lost) (count-turn (lossAt (a .t) (a .desk) (a .learnt)) (a .t4) pastEnd i (at-loop .loop .count) (omega arith) (at-loop .loop .inv .3)))
+    let lost = c .before .before .before .is-lost .ensures in (
+      omega arith,
+      omega (arith, c .one-if .ensures, one-if-le (c .before .before .before .is-lost .result)),
+      ap₂ (λ (l : List Cell) (x : Cell). set l i x) (at-loop .loop .inv .2) (c .before .unless-lost .ensures ∙ ap (λ (b : Bool). cond b noCell here) lost)
+          ∙ upTo-step (left-at (a .t) (a .desk) (a .learnt) (a .t4)) i (a .t4),
+      rw (c .one-if .ensures, lost) (count-turn (lossAt (a .t) (a .desk) (a .learnt)) (a .t4) pastEnd i (at-loop .loop .count) (omega arith) (at-loop .loop .inv .3)),
+    )
 
 returns : tie.Need-returns Inv-loop μ-loop
 unfolding leftOf lossOf
@@ -97,9 +96,10 @@ returns c =
     let at-loop = c .before in
     let a = at-loop .before .args in
     let long : length (a .t4) ≡ 32 = search (needs, length-mapped) in
-    let end : at-loop .loop .c ≡ 32 = omega arith in
-    (at-loop .loop .inv .2 ∙ upTo-mapAt (leftAt (a .t) (a .desk) (a .learnt)) (at-loop .loop .c) (a .t4) pastEnd (omega arith),
-     sym (count-end (lossAt (a .t) (a .desk) (a .learnt)) (a .t4) pastEnd (at-loop .loop .c) (at-loop .loop .count) (omega arith) (at-loop .loop .inv .3)))
+    let end : at-loop .loop .c ≡ 32 = omega arith in (
+      at-loop .loop .inv .2 ∙ upTo-mapAt (leftAt (a .t) (a .desk) (a .learnt)) (at-loop .loop .c) (a .t4) pastEnd (omega arith),
+      sym (count-end (lossAt (a .t) (a .desk) (a .learnt)) (a .t4) pastEnd (at-loop .loop .c) (at-loop .loop .count) (omega arith) (at-loop .loop .inv .3)),
+    )
 
 pub lose-spec : {M : Type 1} → statement M
 lose-spec =

@@ -1,9 +1,7 @@
-use borrow.Author.Needs.{needs}
-use native.Mathlib.Omega.{arith}
+-- `desk::losing::unless_lost` meets its contract.
+-- Assumes nothing.
 use Rattle.desk.proofs.losing.unless_lost.Statement.{statement}
 use Rattle.desk.proofs.losing.unless_lost.Tie as tie
-use Rattle.desk.proofs.losing.unless_lost.Reads as reads
-use Rattle.desk.proofs.losing.unless_lost.Lts as lts
 
 returns : tie.Need-returns
 returns c = rw (c .if1 .taken)

@@ -1,11 +1,9 @@
+-- `desk::serving::answer_read` meets its contract.
+-- Assumes nothing.
 use borrow.Author.Needs.{needs}
-use native.Mathlib.Omega.{arith}
 use Rattle.desk.specs.Rules.{readServed}
 use Rattle.desk.proofs.serving.answer_read.Statement.{statement}
 use Rattle.desk.proofs.serving.answer_read.Tie as tie
-use Rattle.desk.proofs.serving.answer_read.Reads as reads
-use Rattle.desk.proofs.serving.answer_read.Lts as lts
-use Rattle.desk.proofs.serving.answered.Reads as answered-reads
 
 cast-c : tie.Need-cast-c
 cast-c c = search needs

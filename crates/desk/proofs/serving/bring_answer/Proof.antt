@@ -1,17 +1,9 @@
+-- `desk::serving::bring_answer` meets its contract: each part of the record is what the call that made it ensures.
+-- Assumes nothing.
 use borrow.Author.Needs.{needs}
-use native.Mathlib.Omega.{arith}
-use mathlib.Core.Path.{_≡_, refl, sym, ap, ap₂, _∙_}
 use Rattle.desk.specs.Rules.{brings, bringDone}
 use Rattle.desk.proofs.serving.bring_answer.Statement.{statement}
 use Rattle.desk.proofs.serving.bring_answer.Tie as tie
-use Rattle.desk.proofs.serving.bring_answer.Reads as reads
-use Rattle.desk.proofs.serving.bring_answer.Lts as lts
-use Rattle.clock.proofs.Clock.merge.Reads as merge-reads
-use Rattle.desk.proofs.asking.is_blank.Reads as is-blank-reads
-use Rattle.desk.proofs.asking.shown_code.Reads as shown-code-reads
-use Rattle.desk.proofs.losing.lose.Reads as lose-reads
-use Rattle.desk.proofs.replied.Reads as replied-reads
-use Rattle.desk.proofs.serving.named.Reads as named-reads
 
 cast-c : tie.Need-cast-c
 cast-c c = search needs

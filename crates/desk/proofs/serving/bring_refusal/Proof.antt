@@ -1,16 +1,13 @@
+-- `desk::serving::bring_refusal` meets its contract: each return rewrites with the tests that led there.
+-- Assumes nothing.
 use borrow.Author.Needs.{needs}
 use native.Mathlib.Omega.{arith}
-use mathlib.Core.Path.{_≡_, refl, sym, ap, ap₂, _∙_}
-use borrow.Author.Tests.{lt-ltb, le-ltb, le-leb, lt-leb, eq-eqb, ne-eqb, not-true, not-false}
+use mathlib.Core.Path.{sym, _∙_}
+use borrow.Author.Tests.{not-true, not-false}
 use Rattle.desk.specs.Rules.{bringRefusal}
 use Rattle.desk.specs.SoundLaws.{sound-rule}
 use Rattle.desk.proofs.serving.bring_refusal.Statement.{statement}
 use Rattle.desk.proofs.serving.bring_refusal.Tie as tie
-use Rattle.desk.proofs.serving.bring_refusal.Reads as reads
-use Rattle.desk.proofs.serving.bring_refusal.Lts as lts
-use Rattle.desk.proofs.serving.fits_bring.Reads as fits-bring-reads
-use Rattle.desk.proofs.sound.sound.Reads as sound-reads
-use Rattle.desk.proofs.sound.waits.Reads as waits-reads
 
 sound-requires : tie.Need-sound-requires
 sound-requires c κs = search needs

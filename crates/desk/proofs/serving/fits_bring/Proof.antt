@@ -1,11 +1,9 @@
+-- `desk::serving::fits_bring` meets its contract.
+-- Assumes nothing.
 use borrow.Author.Needs.{needs}
-use native.Mathlib.Omega.{arith}
 use Rattle.desk.specs.Rules.{fitsBring}
 use Rattle.desk.proofs.serving.fits_bring.Statement.{statement}
 use Rattle.desk.proofs.serving.fits_bring.Tie as tie
-use Rattle.desk.proofs.serving.fits_bring.Reads as reads
-use Rattle.desk.proofs.serving.fits_bring.Lts as lts
-use Rattle.desk.proofs.serving.of_tray.Reads as of-tray-reads
 
 add-kind : tie.Need-add-kind
 add-kind c = search needs

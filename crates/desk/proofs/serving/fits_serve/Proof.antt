@@ -1,19 +1,12 @@
+-- `desk::serving::fits_serve` meets its contract: a cell past the count is kept by nobody.
+-- Assumes nothing.
 use borrow.Author.Needs.{needs}
-use native.Mathlib.Omega.{arith}
-use mathlib.Core.Path.{_≡_, refl, sym, ap, ap₂, _∙_}
-use mathlib.Core.Bool.{Bool, true, false, not, _&&_, _||_, cond, and-false}
-use mathlib.Core.List.{List}
-use Prim.Native.Nat.{ℕ, _+_, _-_, _≤_, _<_}
-use lib.ListN.{length, drop, getD, set}
-use borrow.Author.Tests.{lt-ltb, le-ltb, le-leb, lt-leb, eq-eqb, ne-eqb, not-true, not-false}
+use mathlib.Core.Bool.{and-false}
+use borrow.Author.Tests.{le-ltb}
 use Rattle.desk.specs.Desk.{keeps}
 use Rattle.desk.specs.Rules.{fitsServe}
 use Rattle.desk.proofs.serving.fits_serve.Statement.{statement}
 use Rattle.desk.proofs.serving.fits_serve.Tie as tie
-use Rattle.desk.proofs.serving.fits_serve.Reads as reads
-use Rattle.desk.proofs.serving.fits_serve.Lts as lts
-use Rattle.desk.proofs.serving.of_tray.Reads as of-tray-reads
-use Rattle.desk.proofs.sound.keeps.Reads as keeps-reads
 
 returns : tie.Need-returns
 unfolding fitsServe keeps

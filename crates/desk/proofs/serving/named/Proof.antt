@@ -1,9 +1,7 @@
-use borrow.Author.Needs.{needs}
-use native.Mathlib.Omega.{arith}
+-- `desk::serving::named` meets its contract.
+-- Assumes nothing.
 use Rattle.desk.proofs.serving.named.Statement.{statement}
 use Rattle.desk.proofs.serving.named.Tie as tie
-use Rattle.desk.proofs.serving.named.Reads as reads
-use Rattle.desk.proofs.serving.named.Lts as lts
 
 returns : tie.Need-returns
 returns c = rw (c .if1 .taken)

@@ -1,11 +1,9 @@
+-- `desk::serving::of_tray` meets its contract.
+-- Assumes nothing.
 use borrow.Author.Needs.{needs}
-use native.Mathlib.Omega.{arith}
 use Rattle.desk.specs.Rules.{ofTray}
 use Rattle.desk.proofs.serving.of_tray.Statement.{statement}
 use Rattle.desk.proofs.serving.of_tray.Tie as tie
-use Rattle.desk.proofs.serving.of_tray.Reads as reads
-use Rattle.desk.proofs.serving.of_tray.Lts as lts
-use Rattle.clock.proofs.Clock.within.Reads as within-reads
 
 within-requires : tie.Need-within-requires
 within-requires c κs = search needs

@@ -1,15 +1,12 @@
+-- `desk::serving::serve_refusal` meets its contract: each return rewrites with the tests that led there.
+-- Assumes nothing.
 use borrow.Author.Needs.{needs}
-use native.Mathlib.Omega.{arith}
-use mathlib.Core.Path.{_≡_, refl, sym, ap, ap₂, _∙_}
-use borrow.Author.Tests.{lt-ltb, le-ltb, le-leb, lt-leb, eq-eqb, ne-eqb, not-true, not-false}
+use mathlib.Core.Path.{sym, _∙_}
+use borrow.Author.Tests.{not-true, not-false}
 use Rattle.desk.specs.Rules.{serveRefusal}
 use Rattle.desk.specs.SoundLaws.{sound-rule}
 use Rattle.desk.proofs.serving.serve_refusal.Statement.{statement}
 use Rattle.desk.proofs.serving.serve_refusal.Tie as tie
-use Rattle.desk.proofs.serving.serve_refusal.Reads as reads
-use Rattle.desk.proofs.serving.serve_refusal.Lts as lts
-use Rattle.desk.proofs.serving.fits_serve.Reads as fits-serve-reads
-use Rattle.desk.proofs.sound.sound.Reads as sound-reads
 
 sound-requires : tie.Need-sound-requires
 sound-requires c κs = search needs
@@ -19,7 +16,7 @@ unfolding serveRefusal
 returns c = rw (← c .before .sound .ensures, not-true (c .before .sound .result) (c .if1 .taken))
 
 fits-serve-requires : tie.Need-fits-serve-requires
-fits-serve-requires c κs = sound-rule (c .before .before .args .v) (sym (c .before .sound .ensures) ∙ not-false (c .before .sound .result) (c .if1 .left)) .tray-is .cells-most
+fits-serve-requires c κs = sound-rule (c .before .before .args .keeper) (sym (c .before .sound .ensures) ∙ not-false (c .before .sound .result) (c .if1 .left)) .tray-is .cells-most
 
 returns-2 : tie.Need-returns-2
 unfolding serveRefusal

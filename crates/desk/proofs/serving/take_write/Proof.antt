@@ -1,15 +1,9 @@
+-- `desk::serving::take_write` meets its contract: each part of the record is what the call that made it ensures.
+-- Assumes nothing.
 use borrow.Author.Needs.{needs}
-use native.Mathlib.Omega.{arith}
-use mathlib.Core.Path.{_≡_, refl, sym, ap, ap₂, _∙_}
 use Rattle.desk.specs.Rules.{takes, writeServed}
 use Rattle.desk.proofs.serving.take_write.Statement.{statement}
 use Rattle.desk.proofs.serving.take_write.Tie as tie
-use Rattle.desk.proofs.serving.take_write.Reads as reads
-use Rattle.desk.proofs.serving.take_write.Lts as lts
-use Rattle.clock.proofs.Clock.merge.Reads as merge-reads
-use Rattle.desk.proofs.losing.lose.Reads as lose-reads
-use Rattle.desk.proofs.serving.answered.Reads as answered-reads
-use Rattle.desk.proofs.sound.waits.Reads as waits-reads
 
 cast-c : tie.Need-cast-c
 cast-c c = search needs

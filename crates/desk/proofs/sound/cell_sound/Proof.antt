@@ -1,13 +1,9 @@
+-- `desk::sound::cell_sound` meets its contract: the cell is held, or it is not.
+-- Assumes nothing.
 use borrow.Author.Needs.{needs}
-use native.Mathlib.Omega.{arith}
-use borrow.Author.Tests.{lt-ltb, le-ltb, le-leb, lt-leb, eq-eqb, ne-eqb, not-true, not-false}
 use Rattle.desk.specs.Sound.{cellSound}
 use Rattle.desk.proofs.sound.cell_sound.Statement.{statement}
 use Rattle.desk.proofs.sound.cell_sound.Tie as tie
-use Rattle.desk.proofs.sound.cell_sound.Reads as reads
-use Rattle.desk.proofs.sound.cell_sound.Lts as lts
-use Rattle.clock.proofs.Clock.within.Reads as within-reads
-use Rattle.desk.proofs.sound.keeps.Reads as keeps-reads
 
 cast-cells : tie.Need-cast-cells
 cast-cells c = search needs

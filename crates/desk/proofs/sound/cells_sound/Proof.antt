@@ -1,19 +1,17 @@
+-- `desk::sound::cells_sound` meets its contract. The loop's invariant: the test over all cells is what the flag says so far, with what is left.
+-- Assumes nothing.
 use borrow.Author.Needs.{needs}
 use native.Mathlib.Omega.{arith}
-use mathlib.Core.Path.{_≡_, refl, sym, ap, ap₂, _∙_}
-use mathlib.Core.Bool.{Bool, true, false, not, _&&_, _||_, cond, and-false}
-use mathlib.Core.List.{List}
-use Prim.Native.Nat.{ℕ, _+_, _-_, _≤_, _<_}
-use lib.ListN.{length, drop, getD, set}
+use mathlib.Core.Path.{_≡_, refl, sym}
+use mathlib.Core.Bool.{_&&_}
+use Prim.Native.Nat.{_-_, _≤_}
+use lib.ListN.{length, drop}
 use Rattle.lists.specs.Each.{mapAt, length-mapped}
 use Rattle.lists.specs.Test.{every, mapAt-turn, mapAt-end}
 use Rattle.desk.specs.Desk.{pastEnd}
 use Rattle.desk.specs.Sound.{cellSound, cellsSound}
 use Rattle.desk.proofs.sound.cells_sound.Statement.{statement}
 use Rattle.desk.proofs.sound.cells_sound.Tie as tie
-use Rattle.desk.proofs.sound.cells_sound.Reads as reads
-use Rattle.desk.proofs.sound.cells_sound.Lts as lts
-use Rattle.desk.proofs.sound.cell_sound.Reads as cell-sound-reads
 
 abbrev Inv-loop : tie.InvT-loop
 Inv-loop v ok₀ c₀ ok c = (c ≤ 32)

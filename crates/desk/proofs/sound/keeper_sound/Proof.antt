@@ -1,11 +1,10 @@
+-- `desk::sound::keeper_sound` meets its contract: the cell is in range, or it is not.
+-- Assumes nothing.
 use borrow.Author.Needs.{needs}
-use native.Mathlib.Omega.{arith}
-use borrow.Author.Tests.{lt-ltb, le-ltb, le-leb, lt-leb, eq-eqb, ne-eqb}
+use borrow.Author.Tests.{lt-ltb, le-ltb}
 use Rattle.desk.specs.Sound.{keeperSound}
 use Rattle.desk.proofs.sound.keeper_sound.Statement.{statement}
 use Rattle.desk.proofs.sound.keeper_sound.Tie as tie
-use Rattle.desk.proofs.sound.keeper_sound.Reads as reads
-use Rattle.desk.proofs.sound.keeper_sound.Lts as lts
 
 cast-cells : tie.Need-cast-cells
 cast-cells c = search needs

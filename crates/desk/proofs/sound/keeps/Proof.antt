@@ -1,10 +1,9 @@
+-- `desk::sound::keeps` meets its contract.
+-- Assumes nothing.
 use borrow.Author.Needs.{needs}
-use native.Mathlib.Omega.{arith}
 use Rattle.desk.specs.Desk.{keeps}
 use Rattle.desk.proofs.sound.keeps.Statement.{statement}
 use Rattle.desk.proofs.sound.keeps.Tie as tie
-use Rattle.desk.proofs.sound.keeps.Reads as reads
-use Rattle.desk.proofs.sound.keeps.Lts as lts
 
 cast-cells : tie.Need-cast-cells
 cast-cells c = search needs

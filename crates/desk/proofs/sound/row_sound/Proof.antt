@@ -1,15 +1,9 @@
+-- `desk::sound::row_sound` meets its contract: each condition is what its function ensures.
+-- Assumes nothing.
 use borrow.Author.Needs.{needs}
-use native.Mathlib.Omega.{arith}
 use Rattle.desk.specs.Sound.{slotSound, rowSound}
 use Rattle.desk.proofs.sound.row_sound.Statement.{statement}
 use Rattle.desk.proofs.sound.row_sound.Tie as tie
-use Rattle.desk.proofs.sound.row_sound.Reads as reads
-use Rattle.desk.proofs.sound.row_sound.Lts as lts
-use Rattle.clock.proofs.Clock.within.Reads as within-reads
-use Rattle.desk.proofs.sound.cells_sound.Reads as cells-sound-reads
-use Rattle.desk.proofs.sound.slot_carries.Reads as slot-carries-reads
-use Rattle.desk.proofs.sound.slot_names.Reads as slot-names-reads
-use Rattle.desk.proofs.sound.waits.Reads as waits-reads
 
 slot-names-requires : tie.Need-slot-names-requires
 slot-names-requires c κs = search needs

@@ -1,13 +1,11 @@
+-- `desk::sound::slot_carries` meets its contract: the slot's kind lacks word and clock, or it has them.
+-- Assumes nothing.
 use borrow.Author.Needs.{needs}
-use native.Mathlib.Omega.{arith}
-use borrow.Author.Tests.{lt-ltb, le-ltb, le-leb, lt-leb, eq-eqb, ne-eqb}
-use borrow.Author.Tests.{lt-ltb, le-ltb, le-leb, lt-leb, eq-eqb, ne-eqb, not-true, not-false}
+use borrow.Author.Tests.{le-leb, lt-leb}
+use borrow.Author.Tests.{le-leb, lt-leb}
 use Rattle.desk.specs.Sound.{slotCarries}
 use Rattle.desk.proofs.sound.slot_carries.Statement.{statement}
 use Rattle.desk.proofs.sound.slot_carries.Tie as tie
-use Rattle.desk.proofs.sound.slot_carries.Reads as reads
-use Rattle.desk.proofs.sound.slot_carries.Lts as lts
-use Rattle.clock.proofs.Clock.within.Reads as within-reads
 
 within-requires : tie.Need-within-requires
 within-requires c κs = search needs

@@ -1,14 +1,11 @@
+-- `desk::sound::slot_names` meets its contract: the slot is empty, or it names a cell.
+-- Assumes nothing.
 use borrow.Author.Needs.{needs}
-use native.Mathlib.Omega.{arith}
-use borrow.Author.Tests.{lt-ltb, le-ltb, le-leb, lt-leb, eq-eqb, ne-eqb}
-use borrow.Author.Tests.{lt-ltb, le-ltb, le-leb, lt-leb, eq-eqb, ne-eqb, not-true, not-false}
+use borrow.Author.Tests.{lt-ltb, le-ltb}
+use borrow.Author.Tests.{lt-ltb, le-ltb, not-true, not-false}
 use Rattle.desk.specs.Sound.{slotNames}
 use Rattle.desk.proofs.sound.slot_names.Statement.{statement}
 use Rattle.desk.proofs.sound.slot_names.Tie as tie
-use Rattle.desk.proofs.sound.slot_names.Reads as reads
-use Rattle.desk.proofs.sound.slot_names.Lts as lts
-use Rattle.desk.proofs.sound.keeps.Reads as keeps-reads
-use Rattle.desk.proofs.sound.waits.Reads as waits-reads
 
 waits-requires : tie.Need-waits-requires
 waits-requires c κs = search needs

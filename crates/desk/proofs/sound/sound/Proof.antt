@@ -1,15 +1,12 @@
+-- `desk::sound::sound` meets its contract: a sound tray has at most 32 cells, so the row can be looked at.
+-- Assumes nothing.
 use borrow.Author.Needs.{needs}
-use native.Mathlib.Omega.{arith}
-use mathlib.Core.Path.{_≡_, refl, sym, ap, ap₂, _∙_}
-use borrow.Author.Tests.{lt-ltb, le-ltb, le-leb, lt-leb, eq-eqb, ne-eqb, not-true, not-false}
+use mathlib.Core.Path.{sym, _∙_}
+use borrow.Author.Tests.{not-true, not-false}
 use Rattle.desk.specs.Sound.{isSound}
 use Rattle.desk.specs.SoundLaws.{tray-rule}
 use Rattle.desk.proofs.sound.sound.Statement.{statement}
 use Rattle.desk.proofs.sound.sound.Tie as tie
-use Rattle.desk.proofs.sound.sound.Reads as reads
-use Rattle.desk.proofs.sound.sound.Lts as lts
-use Rattle.desk.proofs.sound.row_sound.Reads as row-sound-reads
-use Rattle.desk.proofs.sound.tray_sound.Reads as tray-sound-reads
 
 tray-sound-requires : tie.Need-tray-sound-requires
 tray-sound-requires c κs = search needs

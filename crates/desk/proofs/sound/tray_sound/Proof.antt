@@ -1,20 +1,18 @@
+-- `desk::sound::tray_sound` meets its contract. The loop's invariant: the whole test is what the flag says so far, with what is left.
+-- Assumes nothing.
 use borrow.Author.Needs.{needs}
 use native.Mathlib.Omega.{arith}
-use mathlib.Core.Path.{_≡_, refl, sym, ap, ap₂, _∙_}
-use mathlib.Core.Bool.{Bool, true, false, not, _&&_, _||_, cond, and-false}
-use mathlib.Core.List.{List}
-use Prim.Native.Nat.{ℕ, _+_, _-_, _≤_, _<_}
-use lib.ListN.{length, drop, getD, set}
+use mathlib.Core.Path.{_≡_, refl, sym}
+use mathlib.Core.Bool.{Bool, _&&_}
+use Prim.Native.Nat.{_-_, _≤_}
+use lib.ListN.{length, drop}
 use lib.Dec.{leb}
-use Rattle.lists.specs.Each.{mapAt, length-mapped}
-use Rattle.lists.specs.Test.{every, every-turn, every-end, mapAt-turn, mapAt-end}
+use Rattle.lists.specs.Each.{mapAt}
+use Rattle.lists.specs.Test.{every, mapAt-turn, mapAt-end}
 use Rattle.desk.specs.declared.Tray.{Tray}
 use Rattle.desk.specs.Sound.{keeperSound, traySound}
 use Rattle.desk.proofs.sound.tray_sound.Statement.{statement}
 use Rattle.desk.proofs.sound.tray_sound.Tie as tie
-use Rattle.desk.proofs.sound.tray_sound.Reads as reads
-use Rattle.desk.proofs.sound.tray_sound.Lts as lts
-use Rattle.desk.proofs.sound.keeper_sound.Reads as keeper-sound-reads
 
 -- the flag before the loop
 abbrev counts : Tray → Bool
