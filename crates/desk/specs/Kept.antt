@@ -23,7 +23,7 @@ use Rattle.desk.specs.declared.Step.{Step}
 use Rattle.desk.specs.declared.Tray.{Tray}
 use Rattle.desk.specs.Desk.{noCell, noSlot, pastEnd, cellAt, keeps, isCopy, isLost, leftAt, leftOf, waits}
 use Rattle.desk.specs.RuleLaws.{Allowed, allowed, Served, served, Brought, brought}
-use Rattle.desk.specs.Rules.{learns, holds, withClock, withSlot, stores, unless, readAsked, writeAsked, readRule, writeRule, dropRule, eventRefusal, eventDone, eventRule, takes, readServed, writeServed, serveRefusal, serveRule, brings, bringDone, bringRefusal, bringRule}
+use Rattle.desk.specs.Rules.{learns, holds, withClock, withSlot, stores, unless, readAsked, writeAsked, readRule, writeRule, dropRule, eventRefusal, eventDone, eventRule, takes, readServed, writeServed, serveDone, serveRefusal, serveRule, brings, bringDone, bringRefusal, bringRule}
 use Rattle.desk.specs.Rules as rules
 use Rattle.desk.specs.Sound.{isSound}
 use Rattle.desk.specs.SoundLaws.{CellRule, SlotRule, RowRule, SoundRule, sound-rule, rule-sound, keeps-in, no-way}
@@ -244,11 +244,11 @@ module _ (v : Record) (long : length (v .row) ≡ 32) (ok : isSound v ≡ true) 
       (λ none. rule-sound (eventDone v e .after) (event-kept v long (sound-rule v ok) e (allowed v e none)))
 
   pub serve-sound : (m : Message) → isSound (serveRule v m .after) ≡ true
-  unfolding serveRule readServed writeServed takes
+  unfolding serveRule serveDone readServed writeServed takes
   serve-sound m =
-      unless-after (λ (u : Record). isSound u ≡ true) (serveRefusal v m) v (cond (eqb (m .kind) 1) (readServed v m) (writeServed v m)) ok (λ none. done (served v m none))
+      unless-after (λ (u : Record). isSound u ≡ true) (serveRefusal v m) v (serveDone v m) ok (λ none. done (served v m none))
     where
-      done : Served v m → isSound (cond (eqb (m .kind) 1) (readServed v m) (writeServed v m) .after) ≡ true
+      done : Served v m → isSound (serveDone v m .after) ≡ true
       done s =
           ⊎-elim (λ k. rw (eq-eqb (m .kind) 1 k) ok)
           (λ k.

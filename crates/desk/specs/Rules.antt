@@ -127,11 +127,14 @@ unfoldable pub writeServed : Record → Message → Step
 writeServed v m =
     replied 0 0 (lossOf (v .tray) (v .desk) (m .clock) (v .row)) (answerTo m (m .word) (takes v m .clock)) (takes v m)
 
+unfoldable pub serveDone : Record → Message → Step
+serveDone v m = cond (eqb (m .kind) 1) (readServed v m) (writeServed v m)
+
 unfoldable pub serveRefusal : Record → Message → ℕ
 serveRefusal v m = cond (not (isSound v)) 9 (cond (not (fitsServe v m)) 15 0)
 
 unfoldable pub serveRule : Record → Message → Step
-serveRule v m = unless (serveRefusal v m) v (cond (eqb (m .kind) 1) (readServed v m) (writeServed v m))
+serveRule v m = unless (serveRefusal v m) v (serveDone v m)
 
 -- ---- bring: the desk receives its answer
 -- "an answer whose desk, cell and kind (read or write) are those asked"

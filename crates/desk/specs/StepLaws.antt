@@ -21,7 +21,7 @@ use Rattle.desk.specs.declared.Step.{Step}
 use Rattle.desk.specs.declared.Tray.{Tray}
 use Rattle.desk.specs.Desk.{noCell, noMessage, pastEnd, cellAt, oneIf, keeps, isCopy, isBlank, isLost, leftAt, lossAt, leftOf, lossOf, waits}
 use Rattle.desk.specs.RuleLaws.{unless-refused}
-use Rattle.desk.specs.Rules.{slotMessage, holds, withClock, stores, readAsked, writeAsked, replied, shownCode, unless, asks, readRule, writeRule, dropRule, eventRefusal, eventDone, eventRule, serveRefusal, serveRule, readServed, writeServed, bringRefusal, bringRule, bringDone}
+use Rattle.desk.specs.Rules.{slotMessage, holds, withClock, stores, readAsked, writeAsked, replied, shownCode, unless, asks, readRule, writeRule, dropRule, eventRefusal, eventDone, eventRule, serveRefusal, serveRule, serveDone, bringRefusal, bringRule, bringDone}
 use Rattle.desk.specs.Sound.{isSound}
 
 -- ---- a refusal gives its number and changes nothing
@@ -31,7 +31,7 @@ event-refused v e = unless-refused (eventRefusal v e) v (eventDone v e)
 
 pub serve-refused : (v : Record) (m : Message) → (serveRefusal v m ≡ 0 → ⊥) → serveRule v m ≡ replied (serveRefusal v m) 0 0 noMessage v
 unfolding serveRule
-serve-refused v m = unless-refused (serveRefusal v m) v (cond (eqb (m .kind) 1) (readServed v m) (writeServed v m))
+serve-refused v m = unless-refused (serveRefusal v m) v (serveDone v m)
 
 pub bring-refused : (v : Record) (m : Message) → (bringRefusal v m ≡ 0 → ⊥) → bringRule v m ≡ replied (bringRefusal v m) 0 0 noMessage v
 unfolding bringRule

@@ -1,13 +1,15 @@
 // One desk: its record, and what it does with an event, a request and an answer. The table only carries messages between desks.
 ghost use mathlib.Core.Path.{_≡_};
+ghost use Prim.Native.Nat.{_<_};
+ghost use Rattle.clock.specs.Clock.{number};
 ghost use Rattle.desk.specs.Desk.{noMessage};
-ghost use Rattle.desk.specs.Rules.{eventRule, serveRule, bringRule, replied as replied·def};
+ghost use Rattle.desk.specs.Rules.{eventDone, eventRule, serveDone, serveRule, bringDone, bringRule, replied as replied·def};
 use clock::Clock;
 
 mod asking;
 mod losing;
 mod serving;
-mod sound;
+pub mod sound;
 
 // What a desk has of one cell. A cell that is not held has word 0 and the zero stamp.
 pub struct Cell {
@@ -81,15 +83,7 @@ impl Record {
         if refusal != 0 {
             return refused(self, refusal);
         }
-        let kind = e.kind;
-        let c = e.cell as usize;
-        if kind == 1 {
-            return asking::read(self, c);
-        }
-        if kind == 2 {
-            return asking::write(self, c, e.word);
-        }
-        asking::give_up(self, c)
+        event_done(self, e)
     }
 
     // A request of another desk for a cell that this desk keeps.
@@ -100,11 +94,7 @@ impl Record {
         if refusal != 0 {
             return refused(self, refusal);
         }
-        let kind = m.kind;
-        if kind == 1 {
-            return serving::answer_read(self, m);
-        }
-        serving::take_write(self, m)
+        serve_done(self, m)
     }
 
     // The answer to what this desk asked.
@@ -115,8 +105,43 @@ impl Record {
         if refusal != 0 {
             return refused(self, refusal);
         }
-        serving::bring_answer(self, m)
+        bring_done(self, m)
     }
+}
+
+// What the three do once nothing refuses. The table, which has looked at all of that itself, calls these.
+
+pub fn event_done(v: Record, e: Event) -> Step
+    requires { ⌜ (e .cell < 32) × (v .desk < 8) × (e .kind ≡ 2 → number (v .clock) (v .desk) < 4294967295) ⌝ }
+    ensures { λ r. ⌜ r ≡ eventDone v e ⌝ }
+{
+    let kind = e.kind;
+    let c = e.cell as usize;
+    if kind == 1 {
+        return asking::read(v, c);
+    }
+    if kind == 2 {
+        return asking::write(v, c, e.word);
+    }
+    asking::give_up(v, c)
+}
+
+pub fn serve_done(v: Record, m: Message) -> Step
+    requires { ⌜ (m .cell < 32) × (m .kind < 3) ⌝ }
+    ensures { λ r. ⌜ r ≡ serveDone v m ⌝ }
+{
+    let kind = m.kind;
+    if kind == 1 {
+        return serving::answer_read(v, m);
+    }
+    serving::take_write(v, m)
+}
+
+pub fn bring_done(v: Record, m: Message) -> Step
+    requires { ⌜ m .cell < 32 ⌝ }
+    ensures { λ r. ⌜ r ≡ bringDone v m ⌝ }
+{
+    serving::bring_answer(v, m)
 }
 
 const NO_MESSAGE: Message = Message {

@@ -10,13 +10,13 @@ use crate::Slot;
 use crate::Tray;
 use clock::Clock;
 
-pub(crate) fn waits(s: Slot) -> bool
+pub fn waits(s: Slot) -> bool
     ensures { λ r. ⌜ r ≡ waits·def s ⌝ }
 {
     s.kind != 0
 }
 
-pub(crate) fn keeps(t: Tray, desk: u8, c: usize) -> bool
+pub fn keeps(t: Tray, desk: u8, c: usize) -> bool
     requires { ⌜ c < 32 ⌝ }
     ensures { λ r. ⌜ r ≡ keeps·def t desk c ⌝ }
 {
@@ -35,7 +35,7 @@ fn keeper_sound(t: Tray, c: usize) -> bool
     t.keepers[c] == 0
 }
 
-pub(crate) fn tray_sound(t: Tray) -> bool
+pub fn tray_sound(t: Tray) -> bool
     ensures { λ r. ⌜ r ≡ traySound t ⌝ }
 {
     let mut ok = (1 <= t.desks) & (t.desks <= 8) & ((1 <= t.cells) & (t.cells <= 32));
@@ -92,7 +92,7 @@ fn slot_carries(t: Tray, s: Slot) -> bool
 }
 
 // A desk's row of the table, where its slot may be answered.
-pub(crate) fn row_sound(v: Record) -> bool
+pub fn row_sound(v: Record) -> bool
     requires { ⌜ v .tray .cells ≤ 32 ⌝ }
     ensures { λ r. ⌜ r ≡ rowSound v ⌝ }
 {

@@ -17,14 +17,14 @@ returns : tie.Need-returns
 unfolding bringRule
 returns c = rw (← c .before .before .bring-refusal .ensures) (c .refused .ensures ∙ sym (unless-refused (c .before .before .bring-refusal .result) (c .before .before .before .args .self) (bringDone (c .before .before .before .args .self) (c .before .before .before .args .m)) (c .before .if1 .taken)))
 
-bring-answer-requires : tie.Need-bring-answer-requires
-bring-answer-requires c κs = bring-place (c .before .before .args .self) (c .before .before .args .m) (sym (c .before .bring-refusal .ensures) ∙ c .if1 .left)
+bring-done-requires : tie.Need-bring-done-requires
+bring-done-requires c κs = bring-place (c .before .before .args .self) (c .before .before .args .m) (sym (c .before .bring-refusal .ensures) ∙ c .if1 .left)
 
 returns-2 : tie.Need-returns-2
 unfolding bringRule unless
-returns-2 c = rw (← c .before .before .bring-refusal .ensures, c .before .if1 .left) (c .bring-answer .ensures)
+returns-2 c = rw (← c .before .before .bring-refusal .ensures, c .before .if1 .left) (c .bring-done .ensures)
 
 pub bring-spec : {M : Type 1} → statement M
 bring-spec =
     tie.close
-    (tie.spec bring-refusal-requires refused-requires returns bring-answer-requires returns-2)
+    (tie.spec bring-refusal-requires refused-requires returns bring-done-requires returns-2)

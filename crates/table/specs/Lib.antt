@@ -1,0 +1,4 @@
+pub mod Rules
+pub mod SetUp
+pub mod Sound
+pub mod Table
