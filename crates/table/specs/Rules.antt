@@ -70,9 +70,12 @@ unfoldable pub done : Table → Event → Outcome
 done t e = cond (eqb (e .kind) 3) (takeRule t (e .desk)) (cond (eqb (e .kind) 4) (bringRule t (e .desk)) (ownRule t e))
 
 -- "The reply is the number, value 0, count 0; the table stays as given."
+abbrev pub refusedWith : ℕ → Table → Outcome
+refusedWith n t = record { reply = record { code = n; value = 0; count = 0 }; after = t }
+
 unfoldable pub unless : ℕ → Table → Outcome → Outcome
 unless zero t o = o
-unless (suc n) t o = record { reply = record { code = suc n; value = 0; count = 0 }; after = t }
+unless (suc n) t o = refusedWith (suc n) t
 
 unfoldable pub eventRule : Table → Event → Outcome
 eventRule t e = unless (refusal t e) t (done t e)

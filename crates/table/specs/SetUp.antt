@@ -15,12 +15,15 @@ use Rattle.table.specs.declared.SetUp.{SetUp}
 use Rattle.table.specs.declared.Table.{Table}
 
 -- "keepers past the cell count are ignored and stored as 0"
+abbrev pub storedKeeper : ℕ → ℕ → ℕ → ℕ
+storedKeeper cells c keeper = cond (ltb c cells) keeper 0
+
 unfoldable pub freshTray : ℕ → ℕ → List ℕ → Tray
-freshTray desks cells keepers = record { desks = desks; cells = cells; keepers = mapAt (λ c keeper. cond (ltb c cells) keeper 0) keepers }
+freshTray desks cells keepers = record { desks = desks; cells = cells; keepers = mapAt (storedKeeper cells) keepers }
 
 -- entry i is cell i % 32 of desk i / 32: held by its keeper alone, with word 0 and zero stamp
-abbrev pub freshCell : Tray → ℕ → Cell → Cell
-freshCell t i _ = record { held = keeps t (i / 32) (i % 32); word = 0; stamp = zeroClock }
+abbrev pub freshCell : Tray → ℕ → Cell
+freshCell t i = record { held = keeps t (i / 32) (i % 32); word = 0; stamp = zeroClock }
 
 unfoldable pub freshTable : Tray → Table
 freshTable t =
@@ -29,7 +32,7 @@ freshTable t =
       clocks = replicate 8 zeroClock;
       slots = replicate 8 noSlot;
       served = replicate 8 false;
-      cells = mapAt (freshCell t) (replicate 256 noCell)
+      cells = mapAt (λ i _. freshCell t i) (replicate 256 noCell);
     }
 
 unfoldable pub noTable : Table
@@ -39,15 +42,22 @@ noTable =
       clocks = replicate 8 zeroClock;
       slots = replicate 8 noSlot;
       served = replicate 8 false;
-      cells = replicate 256 noCell
+      cells = replicate 256 noCell;
     }
+
+-- every keeper below the cell count is a desk
+abbrev pub keeperRight : ℕ → ℕ → ℕ → ℕ → Bool
+keeperRight desks cells c keeper = not (ltb c cells) || ltb keeper desks
+
+unfoldable pub keepersRight : ℕ → ℕ → List ℕ → Bool
+keepersRight desks cells keepers = every (mapAt (keeperRight desks cells) keepers)
 
 -- 20 desks not 1 to 8, 21 cells not 1 to 32, 22 a keeper that is no desk
 unfoldable pub setUpRefusal : ℕ → ℕ → List ℕ → ℕ
 setUpRefusal desks cells keepers =
     cond (not (leb 1 desks && leb desks 8)) 20
     (cond (not (leb 1 cells && leb cells 32)) 21
-    (cond (not (every (mapAt (λ c keeper. not (ltb c cells) || ltb keeper desks) keepers))) 22 0))
+    (cond (not (keepersRight desks cells keepers)) 22 0))
 
 -- a refusal gives its number and an all-zero table
 unfoldable pub answerSetUp : ℕ → Table → SetUp

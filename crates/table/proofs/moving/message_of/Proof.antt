@@ -1,0 +1,21 @@
+use borrow.Author.Needs.{needs}
+use native.Mathlib.Omega.{arith}
+use Rattle.table.specs.Rules.{messageOf}
+use Rattle.table.specs.Table.{recordOf}
+use Rattle.table.proofs.moving.message_of.Statement.{statement}
+use Rattle.table.proofs.moving.message_of.Tie as tie
+use Rattle.table.proofs.moving.message_of.Reads as reads
+use Rattle.table.proofs.moving.message_of.Lts as lts
+
+mul-s : tie.Need-mul-s
+mul-s c = search needs
+
+element-copy-out-s : tie.Need-element-copy-out-s
+element-copy-out-s c = search needs
+
+returns : tie.Need-returns
+unfolding messageOf recordOf
+returns c = search needs
+
+pub message-of-spec : {M : Type 1} → statement M
+message-of-spec = tie.close (tie.spec mul-s element-copy-out-s returns)

@@ -1,0 +1,51 @@
+use borrow.Author.Needs.{needs}
+use native.Mathlib.Omega.{arith}
+use Rattle.table.proofs.moving.take.Statement.{statement}
+use Rattle.table.proofs.moving.take.Tie as tie
+use Rattle.table.proofs.moving.take.Reads as reads
+use Rattle.table.proofs.moving.take.Lts as lts
+use Rattle.desk.proofs.serve_done.Reads as serve-done-reads
+use Rattle.table.proofs.moving.message_of.Reads as message-of-reads
+use Rattle.table.proofs.rows.put_back.Reads as put-back-reads
+use Rattle.table.proofs.rows.record_of.Reads as record-of-reads
+
+message-of-requires : tie.Need-message-of-requires
+message-of-requires c κs = search needs
+
+cast-c : tie.Need-cast-c
+cast-c c = search needs
+
+array-read-keeper : tie.Need-array-read-keeper
+array-read-keeper c = ?
+
+record-of-requires : tie.Need-record-of-requires
+record-of-requires c κs = ?
+
+serve-done-requires : tie.Need-serve-done-requires
+serve-done-requires c κs = ?
+
+put-back-requires : tie.Need-put-back-requires
+put-back-requires c κs = ?
+
+mul-t19 : tie.Need-mul-t19
+mul-t19 c = search needs
+
+element-set-from-after : tie.Need-element-set-from-after
+element-set-from-after c = search needs
+
+returns : tie.Need-returns
+returns c = ?
+
+pub take-spec : {M : Type 1} → statement M
+take-spec =
+    tie.close
+    (tie.spec
+    message-of-requires
+    cast-c
+    array-read-keeper
+    record-of-requires
+    serve-done-requires
+    put-back-requires
+    mul-t19
+    element-set-from-after
+    returns)

@@ -1,0 +1,77 @@
+use borrow.Author.Needs.{needs}
+use native.Mathlib.Omega.{arith}
+use mathlib.Core.Path.{_≡_, refl, sym, ap, ap₂, _∙_}
+use mathlib.Core.Bool.{Bool, true, false, not, _&&_, _||_, cond, and-false}
+use mathlib.Core.List.{List}
+use Prim.Native.Nat.{ℕ, _+_, _-_, _*_, _≤_, _<_}
+use lib.ListN.{length, drop, getD, set, replicate}
+use lib.Seq.{slice, paste}
+use Rattle.clock.specs.Clock.{zeroClock}
+use Rattle.desk.specs.Desk.{noSlot}
+use Rattle.lists.specs.Replaced.{upTo, upTo-step, upTo-all, upTo-mapAt}
+use Rattle.lists.specs.Each.{mapAt, length-mapAt, getD-mapAt, length-mapped}
+use Rattle.desk.specs.declared.Cell.{Cell}
+use Rattle.desk.specs.declared.Tray.{Tray}
+use Rattle.desk.specs.Desk.{noCell, pastEnd}
+use Rattle.table.specs.SetUp.{freshCell, freshTable}
+use Rattle.table.proofs.setting.fresh.Statement.{statement}
+use Rattle.table.proofs.setting.fresh.Tie as tie
+use Rattle.table.proofs.setting.fresh.Reads as reads
+use Rattle.table.proofs.setting.fresh.Lts as lts
+use Rattle.table.proofs.setting.fresh_cell.Reads as fresh-cell-reads
+
+abbrev Inv-loop : tie.InvT-loop
+Inv-loop t cells₀ i₀ cells i = (i ≤ 256) × (cells ≡ upTo (freshCell t) i (replicate 256 noCell))
+
+abbrev μ-loop : tie.MeasureT-loop
+μ-loop t cells₀ i₀ cells i = 256 - i
+
+loop-holds : tie.Need-loop-holds Inv-loop μ-loop
+unfolding upTo
+loop-holds c = (search needs, refl)
+
+fresh-cell-requires : tie.Need-fresh-cell-requires Inv-loop μ-loop
+fresh-cell-requires c κs = search needs
+
+mul-cells : tie.Need-mul-cells Inv-loop μ-loop
+mul-cells c = search needs
+
+array-set-from-cells : tie.Need-array-set-from-cells Inv-loop μ-loop
+array-set-from-cells c = search needs
+
+add-i : tie.Need-add-i Inv-loop μ-loop
+add-i c = search needs
+
+loop-less : tie.Need-loop-less Inv-loop μ-loop
+loop-less c = search needs
+
+loop-again : tie.Need-loop-again Inv-loop μ-loop
+loop-again c =
+    let at-loop = c .before .before in
+    let t = at-loop .before .args .t in
+    let k = at-loop .loop .i in
+    (omega arith, ap₂ (λ (l : List Cell) (x : Cell). set l k x) (at-loop .loop .inv .1) (c .fresh-cell .ensures) ∙ upTo-step (freshCell t) k (replicate 256 noCell))
+
+returns : tie.Need-returns Inv-loop μ-loop
+unfolding freshTable
+returns c =
+    let at-loop = c .before in
+    let t = at-loop .before .args .t in
+    let end : at-loop .loop .i ≡ 256 = omega arith in
+    let all = upTo-mapAt (λ i _. freshCell t i) (at-loop .loop .i) (replicate 256 noCell) pastEnd (sym end) in
+    λ i. record { tray = t; clocks = replicate 8 zeroClock; slots = replicate 8 noSlot; served = replicate 8 false; cells = (at-loop .loop .inv .1 ∙ all) i }
+
+pub fresh-spec : {M : Type 1} → statement M
+fresh-spec =
+    tie.close
+    (tie.spec
+    Inv-loop
+    μ-loop
+    loop-holds
+    fresh-cell-requires
+    mul-cells
+    array-set-from-cells
+    add-i
+    loop-less
+    loop-again
+    returns)

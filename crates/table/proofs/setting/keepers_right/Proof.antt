@@ -1,0 +1,66 @@
+use borrow.Author.Needs.{needs}
+use native.Mathlib.Omega.{arith}
+use mathlib.Core.Path.{_≡_, refl, sym, ap, ap₂, _∙_}
+use mathlib.Core.Bool.{Bool, true, false, not, _&&_, _||_, cond, and-false}
+use mathlib.Core.List.{List}
+use Prim.Native.Nat.{ℕ, _+_, _-_, _*_, _≤_, _<_}
+use lib.ListN.{length, drop, getD, set, replicate}
+use lib.Seq.{slice, paste}
+use Rattle.lists.specs.Each.{mapAt, length-mapAt, getD-mapAt, length-mapped}
+use Rattle.lists.specs.Test.{every, mapAt-turn, mapAt-end, every-mapAt}
+use Rattle.table.specs.SetUp.{keeperRight, keepersRight}
+use Rattle.table.proofs.setting.keepers_right.Statement.{statement}
+use Rattle.table.proofs.setting.keepers_right.Tie as tie
+use Rattle.table.proofs.setting.keepers_right.Reads as reads
+use Rattle.table.proofs.setting.keepers_right.Lts as lts
+
+abbrev Inv-loop : tie.InvT-loop
+Inv-loop desks cells keepers count right₀ c₀ right c = (c ≤ 32)
+    × (every (mapAt (keeperRight desks cells) keepers) ≡ (right && every (drop c (mapAt (keeperRight desks cells) keepers))))
+
+abbrev μ-loop : tie.MeasureT-loop
+μ-loop desks cells keepers count right₀ c₀ right c = 32 - c
+
+loop-holds : tie.Need-loop-holds Inv-loop μ-loop
+loop-holds c = (search needs, refl)
+
+mul-right : tie.Need-mul-right Inv-loop μ-loop
+mul-right c = search needs
+
+array-read-right : tie.Need-array-read-right Inv-loop μ-loop
+array-read-right c = search needs
+
+add-c : tie.Need-add-c Inv-loop μ-loop
+add-c c = search needs
+
+loop-less : tie.Need-loop-less Inv-loop μ-loop
+loop-less c = search needs
+
+loop-again : tie.Need-loop-again Inv-loop μ-loop
+loop-again c =
+    let at-loop = c .before in
+    let a = at-loop .before .args in
+    let long : length (a .t3) ≡ 32 = search needs in
+    (omega arith, mapAt-turn (keeperRight (a .desks) (a .cells)) (a .t3) 0 (at-loop .loop .c) (at-loop .loop .right) (omega arith) (at-loop .loop .inv .1))
+
+returns : tie.Need-returns Inv-loop μ-loop
+unfolding keepersRight
+returns c =
+    let at-loop = c .before in
+    let a = at-loop .before .args in
+    let long : length (a .t3) ≡ 32 = search needs in
+    sym (mapAt-end (keeperRight (a .desks) (a .cells)) (a .t3) 0 (at-loop .loop .c) (at-loop .loop .right) (omega arith) (at-loop .loop .inv .1))
+
+pub keepers-right-spec : {M : Type 1} → statement M
+keepers-right-spec =
+    tie.close
+    (tie.spec
+    Inv-loop
+    μ-loop
+    loop-holds
+    mul-right
+    array-read-right
+    add-c
+    loop-less
+    loop-again
+    returns)

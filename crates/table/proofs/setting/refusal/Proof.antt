@@ -1,0 +1,31 @@
+use borrow.Author.Needs.{needs}
+use native.Mathlib.Omega.{arith}
+use borrow.Author.Tests.{lt-ltb, le-ltb, le-leb, lt-leb, eq-eqb, ne-eqb, not-true, not-false, ltb-true}
+use Rattle.table.specs.SetUp.{setUpRefusal}
+use Rattle.table.proofs.setting.refusal.Statement.{statement}
+use Rattle.table.proofs.setting.refusal.Tie as tie
+use Rattle.table.proofs.setting.refusal.Reads as reads
+use Rattle.table.proofs.setting.refusal.Lts as lts
+use Rattle.table.proofs.setting.keepers_right.Reads as keepers-right-reads
+
+returns : tie.Need-returns
+unfolding setUpRefusal
+returns c = rw (c .if1 .taken)
+
+returns-2 : tie.Need-returns-2
+unfolding setUpRefusal
+returns-2 c = rw (c .before .if1 .left, c .if2 .taken)
+
+keepers-right-requires : tie.Need-keepers-right-requires
+keepers-right-requires c κs = ?
+
+returns-3 : tie.Need-returns-3
+unfolding setUpRefusal
+returns-3 c = rw (c .before .before .before .if1 .left, c .before .before .if2 .left, ← c .before .keepers-right .ensures, c .if3 .taken)
+
+returns-4 : tie.Need-returns-4
+unfolding setUpRefusal
+returns-4 c = rw (c .before .before .before .if1 .left, c .before .before .if2 .left, ← c .before .keepers-right .ensures, c .if3 .left)
+
+pub refusal-spec : {M : Type 1} → statement M
+refusal-spec = tie.close (tie.spec returns returns-2 keepers-right-requires returns-3 returns-4)
