@@ -2,4 +2,5 @@ pub mod Rows
 pub mod Rules
 pub mod SetUp
 pub mod Sound
+pub mod SoundLaws
 pub mod Table
