@@ -104,7 +104,7 @@ no-slot-rule t desk =
       no-clock = λ _. zero-past 0;
     }
 
-asked-rule : (t : Tray) (desk c : ℕ) → c < t .cells → keeps t desk c ≡ false → SlotRule t desk (readAsked c)
+pub asked-rule : (t : Tray) (desk c : ℕ) → c < t .cells → keeps t desk c ≡ false → SlotRule t desk (readAsked c)
 unfolding waits
 asked-rule t desk c h e =
     record {
@@ -194,7 +194,7 @@ module _ (v : Record) (long : length (v .row) ≡ 32) (r : SoundRule v) where
         asked = r .asked;
       }
 
-  event-kept : (e : Event) → Allowed v e → SoundRule (eventDone v e .after)
+  pub event-kept : (e : Event) → Allowed v e → SoundRule (eventDone v e .after)
   unfolding eventDone
   event-kept e a =
       ⊎-elim (λ k. rw (eq-eqb (e .kind) 1 k) (read-kept (e .cell) (a .in-range)))

@@ -26,15 +26,15 @@ unless-refused zero v s some = absurd (some refl)
 unless-refused (suc n) v s some = refl
 
 -- a test that did not refuse
-passed : (b : Bool) (n m : ℕ) → cond b (suc n) m ≡ 0 → (b ≡ false) × (m ≡ 0)
+pub passed : (b : Bool) (n m : ℕ) → cond b (suc n) m ≡ 0 → (b ≡ false) × (m ≡ 0)
 passed true n m e = absurd (omega (arith, e))
 passed false n m e = (refl, e)
 
-either-is : (a b : Bool) → (a || b) ≡ true → (a ≡ true) ⊎ (b ≡ true)
+pub either-is : (a b : Bool) → (a || b) ≡ true → (a ≡ true) ⊎ (b ≡ true)
 either-is true b e = inl refl
 either-is false b e = inr e
 
-not-both : (a b : Bool) → (a && b) ≡ false → a ≡ true → b ≡ false
+pub not-both : (a b : Bool) → (a && b) ≡ false → a ≡ true → b ≡ false
 not-both a b e p = rw p at e
 
 -- ---- an event

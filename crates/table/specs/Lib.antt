@@ -1,4 +1,5 @@
 pub mod Rows
+pub mod RuleLaws
 pub mod Rules
 pub mod SetUp
 pub mod Sound
