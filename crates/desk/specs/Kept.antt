@@ -91,7 +91,7 @@ stores-row : (v : Record) (c w : ℕ) → RowRule v → c < v .tray .cells → R
 stores-row v c w r h = holds-row v c (record { held = true; word = w; stamp = v .clock }) r (held-rule (v .tray) (v .desk) c w (v .clock) h (r .clock-past))
 
 -- ---- slots
-no-slot-rule : (t : Tray) (desk : ℕ) → SlotRule t desk noSlot
+pub no-slot-rule : (t : Tray) (desk : ℕ) → SlotRule t desk noSlot
 unfolding waits
 no-slot-rule t desk =
     record {

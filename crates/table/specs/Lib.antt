@@ -1,3 +1,6 @@
+pub mod Equal
+pub mod Fresh
+pub mod Kept
 pub mod Rows
 pub mod RuleLaws
 pub mod Rules
@@ -5,3 +8,4 @@ pub mod SetUp
 pub mod Sound
 pub mod SoundLaws
 pub mod Table
+pub mod Touch

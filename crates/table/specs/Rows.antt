@@ -14,6 +14,7 @@ use Rattle.desk.specs.declared.Record.{Record}
 use Rattle.desk.specs.declared.Slot.{Slot}
 use Rattle.desk.specs.Desk.{pastEnd}
 use Rattle.desk.specs.Rules.{withSlot}
+use Rattle.desk.specs.SameDesk.{SameDesk}
 use Rattle.lists.specs.Part.{slice-paste, slice-apart}
 use Rattle.table.specs.declared.Table.{Table}
 use Rattle.table.specs.Table.{pastClock, pastSlot, slotOf, recordOf, putBack, withSlotOf}
@@ -30,46 +31,62 @@ pub row-length : (t : Table) (desk : ℕ) → Sized t → desk < 8 → length (r
 unfolding recordOf
 row-length t desk z h = length-slice (desk * 32) (desk * 32 + 32) (t .cells) (omega arith) ∙ (omega arith)
 
--- ---- a record put back
-module _ (t : Table) (v : Record) (z : Sized t) (h : v .desk < 8) (long : length (v .row) ≡ 32) where
-  pub put-sized : Sized (putBack t v)
+-- ---- a record of the same desk put back
+module _ (t : Table) (desk : ℕ) (u : Record) (z : Sized t) (h : desk < 8) (same : SameDesk (recordOf t desk) u) where
+  below : u .desk < 8
+  unfolding recordOf
+  below = rw (same .same-number) h
+
+  long : length (u .row) ≡ 32
+  long = same .same-length ∙ row-length t desk z h
+
+  pub put-sized : Sized (putBack t u)
   unfolding putBack
   put-sized =
       record {
         all-keepers = z .all-keepers;
-        all-clocks = length-set (t .clocks) (v .desk) (v .clock) ∙ z .all-clocks;
-        all-slots = length-set (t .slots) (v .desk) (v .slot) ∙ z .all-slots;
-        all-served = length-set (t .served) (v .desk) (v .served) ∙ z .all-served;
-        all-cells = length-paste (t .cells) (v .desk * 32) (v .row) 32 (omega arith) (omega arith) ∙ z .all-cells;
+        all-clocks = length-set (t .clocks) (u .desk) (u .clock) ∙ z .all-clocks;
+        all-slots = length-set (t .slots) (u .desk) (u .slot) ∙ z .all-slots;
+        all-served = length-set (t .served) (u .desk) (u .served) ∙ z .all-served;
+        all-cells = length-paste (t .cells) (u .desk * 32) (u .row) 32 (omega (arith, below)) (omega (arith, long)) ∙ z .all-cells;
       }
 
-  pub put-same : v .tray ≡ t .tray → recordOf (putBack t v) (v .desk) ≡ v
+  pub put-same : recordOf (putBack t u) desk ≡ u
   unfolding recordOf putBack
-  put-same e =
-      rw
-      (getD-set-same (t .clocks) (v .desk) (v .clock) pastClock (omega arith),
-      getD-set-same (t .slots) (v .desk) (v .slot) pastSlot (omega arith),
-      getD-set-same (t .served) (v .desk) (v .served) false (omega arith),
-      row,
-      ← e)
+  put-same =
+      rw (
+        ← same .same-number,
+        getD-set-same (t .clocks) (u .desk) (u .clock) pastClock (omega (arith, below)),
+        getD-set-same (t .slots) (u .desk) (u .slot) pastSlot (omega (arith, below)),
+        getD-set-same (t .served) (u .desk) (u .served) false (omega (arith, below)),
+        row,
+        ← same .same-tray,
+      )
     where
-      row : slice (v .desk * 32) (v .desk * 32 + 32) (paste (t .cells) (v .desk * 32) (v .row) 32) ≡ v .row
-      row = slice-paste (t .cells) (v .desk * 32) (v .row) 32 (omega arith) (omega arith) ∙ take-all 32 (v .row) (omega arith)
+      row : slice (u .desk * 32) (u .desk * 32 + 32) (paste (t .cells) (u .desk * 32) (u .row) 32) ≡ u .row
+      row =
+          slice-paste (t .cells) (u .desk * 32) (u .row) 32 (omega (arith, below)) (omega (arith, long))
+          ∙ take-all 32 (u .row) (omega (arith, long))
 
-  pub put-other : (p : ℕ) → p < 8 → (p ≡ v .desk → ⊥) → recordOf (putBack t v) p ≡ recordOf t p
+  pub put-other : (p : ℕ) → p < 8 → (p ≡ desk → ⊥) → recordOf (putBack t u) p ≡ recordOf t p
   unfolding recordOf putBack
   put-other p there ne =
-      rw
-      (getD-set-other (t .clocks) (v .desk) p (v .clock) pastClock ne,
-      getD-set-other (t .slots) (v .desk) p (v .slot) pastSlot ne,
-      getD-set-other (t .served) (v .desk) p (v .served) false ne,
-      row)
+      rw (
+        getD-set-other (t .clocks) (u .desk) p (u .clock) pastClock other,
+        getD-set-other (t .slots) (u .desk) p (u .slot) pastSlot other,
+        getD-set-other (t .served) (u .desk) p (u .served) false other,
+        row,
+      )
     where
-      apart : (p * 32 + 32 ≤ v .desk * 32) ⊎ (v .desk * 32 + 32 ≤ p * 32)
-      apart = elim (decLt p (v .desk)) [ yes l ↦ inl (omega arith) | no l ↦ inr (omega arith) ]
+      other : p ≡ u .desk → ⊥
+      other q = ne (q ∙ same .same-number)
 
-      row : slice (p * 32) (p * 32 + 32) (paste (t .cells) (v .desk * 32) (v .row) 32) ≡ slice (p * 32) (p * 32 + 32) (t .cells)
-      row = slice-apart (t .cells) (v .desk * 32) (v .row) 32 (omega arith) (omega arith) (p * 32) (p * 32 + 32) pastEnd (omega arith) apart
+      apart : (p * 32 + 32 ≤ u .desk * 32) ⊎ (u .desk * 32 + 32 ≤ p * 32)
+      apart = elim (decLt p (u .desk)) [ yes l ↦ inl (omega arith) | no l ↦ inr (omega (arith, other)) ]
+
+      row : slice (p * 32) (p * 32 + 32) (paste (t .cells) (u .desk * 32) (u .row) 32) ≡ slice (p * 32) (p * 32 + 32) (t .cells)
+      row =
+          slice-apart (t .cells) (u .desk * 32) (u .row) 32 (omega (arith, below)) (omega (arith, long)) (p * 32) (p * 32 + 32) pastEnd (omega arith) apart
 
 -- ---- a slot put in
 module _ (t : Table) (desk : ℕ) (s : Slot) (z : Sized t) where

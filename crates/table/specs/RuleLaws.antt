@@ -8,15 +8,17 @@ use native.Mathlib.Decide.{ℕ-discrete}
 use native.Mathlib.Omega.{arith}
 use borrow.Author.Tests.{ltb-true, leb-true, eqb-true, eq-eqb, ne-eqb, lt-ltb, not-false}
 use lib.Dec.{ltb, leb, eqb}
+use lib.ListN.{length, getD}
 use Rattle.clock.specs.Clock.{number}
 use Rattle.desk.specs.declared.Event.{Event}
-use Rattle.desk.specs.declared.Reply.{Reply}
+use Rattle.desk.specs.declared.Slot.{Slot}
+use Rattle.desk.specs.declared.Tray.{Tray}
 use Rattle.desk.specs.Desk.{keeps, waits}
 use Rattle.desk.specs.Kept.{event-kept}
 use Rattle.desk.specs.RuleLaws.{passed, either-is, not-both}
 use Rattle.desk.specs.Rules.{eventRefusal, eventDone}
 use Rattle.desk.specs.Sound.{keeperSound, isSound}
-use Rattle.desk.specs.SoundLaws.{SoundRule, rule-sound, no-way}
+use Rattle.desk.specs.SoundLaws.{TrayRule, SoundRule, rule-sound, no-way}
 use Rattle.lists.specs.Test.{both-left, both-right}
 use Rattle.table.specs.declared.Outcome.{Outcome}
 use Rattle.table.specs.declared.Table.{Table}
@@ -29,6 +31,29 @@ use Rattle.table.specs.Table.{slotOf, keeperOf, recordOf}
 -- the outcome of a refusal
 abbrev pub refused : ℕ → Table → Outcome
 refused n t = record { reply = record { code = n; value = 0; count = 0 }; after = t }
+
+-- the desk that a waiting desk asks
+abbrev pub keeperFor : Table → ℕ → ℕ
+keeperFor t desk = keeperOf t (slotOf t desk .cell)
+
+-- ---- a slot's kind
+pub kind-waits : (s : Slot) → 1 ≤ s .kind → waits s ≡ true
+unfolding waits
+kind-waits s h = ap not (ne-eqb (s .kind) 0 (omega arith))
+
+pub asked-kind : (s : Slot) → isAsked s ≡ true → (s .kind ≡ 1) ⊎ (s .kind ≡ 2)
+unfolding isAsked
+asked-kind s e = ⊎-elim (λ k. inl (eqb-true (s .kind) 1 k)) (λ k. inr (eqb-true (s .kind) 2 k)) (either-is (eqb (s .kind) 1) (eqb (s .kind) 2) e)
+
+pub answered-kind : (s : Slot) → isAnswered s ≡ true → (s .kind ≡ 3) ⊎ (s .kind ≡ 4)
+unfolding isAnswered
+answered-kind s e = ⊎-elim (λ k. inl (eqb-true (s .kind) 3 k)) (λ k. inr (eqb-true (s .kind) 4 k)) (either-is (eqb (s .kind) 3) (eqb (s .kind) 4) e)
+
+pub asked-waits : (s : Slot) → isAsked s ≡ true → waits s ≡ true
+asked-waits s e = kind-waits s (⊎-elim (λ k. omega arith) (λ k. omega arith) (asked-kind s e))
+
+pub answered-waits : (s : Slot) → isAnswered s ≡ true → waits s ≡ true
+answered-waits s e = kind-waits s (⊎-elim (λ k. omega arith) (λ k. omega arith) (answered-kind s e))
 
 -- ---- the tests
 pub record Passed (t : Table) (e : Event) : Type 0 where
@@ -118,3 +143,64 @@ module _ (P : Outcome → Type 0) (t : Table) (e : Event) (refuse : (refusal t e
       go : (n : ℕ) → refusal t e ≡ n → P (unless n t (done t e))
       go zero q = done-is (pass t e q)
       go (suc n) q = rw q at (refuse (λ z. omega arith))
+
+-- ---- the desks that an event names
+-- a waiting desk asks another: the keeper of the cell that its slot names
+pub record Asks (t : Table) (desk : ℕ) : Type 0 where
+  pub cell-is : slotOf t desk .cell < t .tray .cells
+  pub not-kept : keeps (t .tray) desk (slotOf t desk .cell) ≡ false
+  pub keeper-is : keeperFor t desk < t .tray .desks
+  pub keeps-it : keeps (t .tray) (keeperFor t desk) (slotOf t desk .cell) ≡ true
+  pub another : keeperFor t desk ≡ desk → ⊥
+
+-- a cell's keeper is a desk
+pub keeper-desk : (t : Tray) (c : ℕ) → TrayRule t → length (t .keepers) ≡ 32 → c < t .cells → getD (t .keepers) c 0 < t .desks
+unfolding keeperSound
+keeper-desk t c r long h =
+    ltb-true (getD (t .keepers) c 0) (t .desks) (rw (lt-ltb c (t .cells) h) at (r .keeper-is c (omega (arith, r .cells-most))))
+
+pub desk-below : (t : Table) → TableRule t → (desk : ℕ) → desk < t .tray .desks → desk < 8
+desk-below t r desk h = omega (arith, r .tray-is .desks-most)
+
+module _ (t : Table) (z : Sized t) (r : TableRule t) where
+  pub asks : (desk : ℕ) → desk < t .tray .desks → waits (slotOf t desk) ≡ true → Asks t desk
+  unfolding recordOf keeps
+  asks desk h w =
+      record {
+        cell-is = range;
+        not-kept = other;
+        keeper-is = keeper-desk (t .tray) c (r .tray-is) (z .all-keepers) range;
+        keeps-it = kept (keeperFor t desk) refl;
+        another = λ q. no-way (keeps (t .tray) desk c) (kept desk q) other;
+      }
+    where
+      c : ℕ
+      c = slotOf t desk .cell
+
+      range : c < t .tray .cells
+      range = r .row-is desk h .slot-is .in-range w
+
+      other : keeps (t .tray) desk c ≡ false
+      other = r .row-is desk h .slot-is .not-kept w
+
+      kept : (k : ℕ) → keeperFor t desk ≡ k → keeps (t .tray) k c ≡ true
+      kept k q = rw (lt-ltb c (t .tray .cells) range, eq-eqb (keeperFor t desk) k q)
+
+  -- a desk whose slot may still be asked is sound by itself
+  pub own-sound : (desk : ℕ) → desk < t .tray .desks → slotOf t desk .kind ≤ 2 → SoundRule (recordOf t desk)
+  unfolding recordOf
+  own-sound desk h k = record { tray-is = r .tray-is; row-is = r .row-is desk h; asked = k }
+
+  -- a desk's own event passes the desk's tests too
+  pub own-passes : (e : Event) → Passed t e → isOwn e ≡ true → eventRefusal (recordOf t (e .desk)) e ≡ 0
+  unfolding eventRefusal isOwn recordOf waits
+  own-passes e a o =
+      let empty : slotOf t (e .desk) .kind ≡ 0 = eqb-true (slotOf t (e .desk) .kind) 0 (not-false (eqb (slotOf t (e .desk) .kind) 0) (a .idle o)) in
+      rw (
+        rule-sound (recordOf t (e .desk)) (own-sound (e .desk) (a .desk-is) (omega arith)),
+        o,
+        lt-ltb (e .cell) (t .tray .cells) (a .in-range o),
+        a .idle o,
+        a .not-kept,
+        a .below,
+      )
