@@ -1,3 +1,4 @@
+pub mod Choice
 pub mod Equal
 pub mod Fresh
 pub mod Kept

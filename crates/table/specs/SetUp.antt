@@ -29,7 +29,7 @@ freshTable t =
       clocks = replicate 8 zeroClock;
       slots = replicate 8 noSlot;
       served = replicate 8 false;
-      cells = mapAt (freshCell t) (replicate 256 noCell);
+      cells = mapAt (freshCell t) (replicate 256 noCell)
     }
 
 unfoldable pub noTable : Table
@@ -39,7 +39,7 @@ noTable =
       clocks = replicate 8 zeroClock;
       slots = replicate 8 noSlot;
       served = replicate 8 false;
-      cells = replicate 256 noCell;
+      cells = replicate 256 noCell
     }
 
 -- 20 desks not 1 to 8, 21 cells not 1 to 32, 22 a keeper that is no desk

@@ -32,7 +32,7 @@ recordOf t desk =
       clock = getD (t .clocks) desk pastClock;
       row = slice (desk * 32) (desk * 32 + 32) (t .cells);
       slot = slotOf t desk;
-      served = getD (t .served) desk false;
+      served = getD (t .served) desk false
     }
 
 -- the record is its desk's row again
@@ -43,7 +43,7 @@ putBack t v =
       clocks = set (t .clocks) (v .desk) (v .clock);
       slots = set (t .slots) (v .desk) (v .slot);
       served = set (t .served) (v .desk) (v .served);
-      cells = paste (t .cells) (v .desk * 32) (v .row) 32;
+      cells = paste (t .cells) (v .desk * 32) (v .row) 32
     }
 
 -- a desk's slot is now s
