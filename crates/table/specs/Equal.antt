@@ -1,13 +1,13 @@
 -- The table's take equals the keeper's serve, its bring the desk's bring, and a desk's own events the desk's, with the slot as the message.
 -- Assumes nothing.
 use mathlib.Core.Path.{_≡_, refl, sym, ap, _∙_}
-use mathlib.Core.Bool.{Bool, true, false, not, _&&_, _||_, cond}
-use mathlib.Core.Logic.{_⊎_, inl, inr, ⊎-elim}
+use mathlib.Core.Bool.{Bool, true, false, not, cond}
+use mathlib.Core.Logic.{_⊎_, ⊎-elim}
 use Prim.Native.Nat.{ℕ, _+_, _≤_, _<_}
 use native.Mathlib.Decide.{ℕ-discrete}
 use native.Mathlib.Omega.{arith}
-use borrow.Author.Tests.{eq-eqb, ne-eqb, lt-ltb, not-false, eqb-true}
-use lib.Dec.{eqb, ltb, lit≤}
+use borrow.Author.Tests.{eq-eqb, ne-eqb, lt-ltb}
+use lib.Dec.{eqb, lit≤}
 use Rattle.clock.specs.Clock.{isWithin}
 use Rattle.clock.specs.Laws.{past-within}
 use Rattle.desk.specs.declared.Event.{Event}
@@ -16,25 +16,25 @@ use Rattle.desk.specs.declared.Record.{Record}
 use Rattle.desk.specs.declared.Slot.{Slot}
 use Rattle.desk.specs.declared.Step.{Step}
 use Rattle.desk.specs.declared.Tray.{Tray}
-use Rattle.desk.specs.Desk.{keeps, waits}
+use Rattle.desk.specs.Desk.{waits}
 use Rattle.desk.specs.Kept.{event-kept, asked-rule, full-rule, slot-row}
 use Rattle.desk.specs.RuleLaws.{allowed}
 use Rattle.desk.specs.Rules.{withSlot, slotMessage, readAsked, writeAsked, eventRefusal, eventDone, takes, readServed, writeServed, serveDone, ofTray, fitsServe, serveRefusal, serveRule, fitsBring, brings, bringDone, bringRefusal, unless}
 use Rattle.desk.specs.Rules as rules
-use Rattle.desk.specs.SameDesk.{SameDesk, event-same, serve-same, bring-same}
+use Rattle.desk.specs.SameDesk.{SameDesk, event-same, bring-same}
 use Rattle.desk.specs.Sound.{isSound}
 use Rattle.desk.specs.SoundLaws.{SlotRule, SoundRule, sound-rule, rule-sound, no-way}
-use Rattle.lists.specs.Test.{both, either, whichever}
+use Rattle.lists.specs.Test.{both, whichever}
 use Rattle.table.specs.declared.Outcome.{Outcome}
 use Rattle.table.specs.declared.Table.{Table}
 use Rattle.table.specs.Rows.{Sized, row-length, put-same}
-use Rattle.table.specs.RuleLaws.{asked-kind, asked-waits, answered-kind, answered-waits, kind-waits, keeperFor, Passed, pass, Asks, desk-below, asks, own-passes}
+use Rattle.table.specs.RuleLaws.{asked-waits, answered-kind, answered-waits, kind-waits, keeperFor, Passed, pass, Asks, desk-below, asks, own-passes}
 use Rattle.table.specs.Rules.{isOwn, isAsked, isAnswered, refusal, outcome, messageOf, answerSlot, served, takeRule, bringRule, ownRule, done, eventRule}
 use Rattle.table.specs.Rules as tables
 use Rattle.table.specs.Sound.{tableSound}
 use Rattle.table.specs.SoundLaws.{TableRule, table-rule}
 use Rattle.table.specs.Touch.{asker-after, keeper-after}
-use Rattle.table.specs.Table.{slotOf, recordOf, putBack, withSlotOf}
+use Rattle.table.specs.Table.{slotOf, recordOf, putBack}
 
 -- ---- a desk's own record, where "a full slot stays asked until the answer is brought"
 unfoldable pub askedSlot : Slot → Slot

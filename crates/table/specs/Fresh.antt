@@ -1,12 +1,12 @@
 -- A fresh table is sound, whatever set-up it was given that is not refused.
 -- Assumes nothing.
-use mathlib.Core.Path.{_≡_, refl, sym, ap, _∙_}
+use mathlib.Core.Path.{_≡_, refl, _∙_}
 use mathlib.Core.Bool.{Bool, true, false, not, _&&_, _||_, cond}
 use mathlib.Core.List.{List}
 use Prim.Native.Nat.{ℕ, _+_, _*_, _/_, _%_, _≤_, _<_}
 use native.Mathlib.Omega.{arith}
-use borrow.Author.Tests.{ltb-true, leb-true, eqb-true, not-true, not-false}
-use lib.Dec.{ltb, leb, eqb, lit≤}
+use borrow.Author.Tests.{leb-true, eqb-true, not-false}
+use lib.Dec.{ltb, leb, eqb}
 use lib.ListN.{length, getD, replicate, length-replicate, getD-replicate}
 use Rattle.clock.specs.Clock.{zeroClock}
 use Rattle.clock.specs.Laws.{zero-past}
@@ -21,7 +21,6 @@ use Rattle.desk.specs.SoundLaws.{TrayRule, CellRule, RowRule, keeps-in, no-way}
 use Rattle.lists.specs.Each.{mapAt, length-mapAt, getD-mapAt}
 use Rattle.lists.specs.Part.{getD-slice}
 use Rattle.lists.specs.Test.{every, fails, both-left, both-right, every-mapAt}
-use Rattle.table.specs.declared.Table.{Table}
 use Rattle.table.specs.Rows.{Sized, row-length}
 use Rattle.table.specs.RuleLaws.{keeper-desk}
 use Rattle.table.specs.SetUp.{freshTray, freshCell, freshTable, setUpRefusal}

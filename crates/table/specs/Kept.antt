@@ -1,36 +1,34 @@
 -- Every event keeps a sound table sound.
 -- Assumes nothing.
-use mathlib.Core.Path.{_≡_, refl, sym, ap, _∙_}
-use mathlib.Core.Bool.{Bool, true, false, not, _&&_, _||_, cond}
-use mathlib.Core.List.{List}
-use mathlib.Core.Logic.{_⊎_, inl, inr, ⊎-elim}
-use Prim.Native.Nat.{ℕ, _+_, _*_, _/_, _%_, _≤_, _<_}
-use native.Mathlib.Decide.{ℕ-discrete, decLt}
+use mathlib.Core.Path.{_≡_, refl}
+use mathlib.Core.Bool.{true, not}
+use mathlib.Core.Logic.{_⊎_, ⊎-elim}
+use Prim.Native.Nat.{ℕ, _+_, _≤_, _<_}
+use native.Mathlib.Decide.{ℕ-discrete}
 use native.Mathlib.Omega.{arith}
-use borrow.Author.Tests.{eqb-true, eq-eqb, ne-eqb, not-false}
-use lib.Dec.{eqb, lit≤}
-use lib.ListN.{length, getD}
-use Rattle.clock.specs.Laws.{ZeroPast, zero-past}
+use lib.Dec.{eqb}
+use lib.ListN.{length}
+use Rattle.clock.specs.Laws.{ZeroPast}
 use Rattle.desk.specs.declared.Event.{Event}
 use Rattle.desk.specs.declared.Message.{Message}
 use Rattle.desk.specs.declared.Record.{Record}
 use Rattle.desk.specs.declared.Slot.{Slot}
 use Rattle.desk.specs.declared.Step.{Step}
-use Rattle.desk.specs.Desk.{pastEnd, cellAt, keeps, waits}
+use Rattle.desk.specs.Desk.{waits}
 use Rattle.desk.specs.Kept.{event-kept, takes-row, brings-row, slot-row, full-rule}
-use Rattle.desk.specs.RuleLaws.{allowed, either-is}
-use Rattle.desk.specs.Rules.{withSlot, eventDone, takes, readServed, writeServed, serveDone, brings, bringDone}
+use Rattle.desk.specs.RuleLaws.{allowed}
+use Rattle.desk.specs.Rules.{eventDone, takes, readServed, writeServed, serveDone, bringDone}
 use Rattle.desk.specs.SameDesk.{SameDesk, event-same, serve-same, bring-same}
-use Rattle.desk.specs.SoundLaws.{SlotRule, RowRule, sound-rule, no-way}
+use Rattle.desk.specs.SoundLaws.{SlotRule, RowRule, sound-rule}
 use Rattle.lists.specs.Test.{whichever}
 use Rattle.table.specs.declared.Outcome.{Outcome}
 use Rattle.table.specs.declared.Table.{Table}
 use Rattle.table.specs.Rows.{Sized, row-length, put-sized, put-same, put-other, slot-sized, slot-same, slot-other}
-use Rattle.table.specs.RuleLaws.{kind-waits, asked-kind, asked-waits, answered-waits, keeperFor, Passed, each-event, Asks, desk-below, asks, own-sound, own-passes}
-use Rattle.table.specs.Rules.{isOwn, isAsked, isAnswered, outcome, messageOf, answerSlot, served, takeRule, bringRule, ownRule, eventRule}
+use Rattle.table.specs.RuleLaws.{kind-waits, asked-kind, asked-waits, answered-waits, keeperFor, Passed, each-event, Asks, desk-below, asks, own-passes}
+use Rattle.table.specs.Rules.{isOwn, outcome, messageOf, answerSlot, served, takeRule, bringRule, ownRule, eventRule}
 use Rattle.table.specs.Sound.{tableSound}
-use Rattle.table.specs.SoundLaws.{TableRule, RowNone, table-rule, rule-table}
-use Rattle.table.specs.Table.{slotOf, keeperOf, recordOf, putBack, withSlotOf}
+use Rattle.table.specs.SoundLaws.{TableRule, table-rule, rule-table}
+use Rattle.table.specs.Table.{slotOf, recordOf, putBack, withSlotOf}
 
 -- ---- a table that is sound and has its lengths
 pub record Good (t : Table) : Type 0 where

@@ -1,15 +1,13 @@
 -- A desk's record put back is that desk's record again, and every other desk's is as it was; the same of a slot alone.
 -- Assumes nothing.
-use mathlib.Core.Path.{_≡_, refl, sym, ap, _∙_}
-use mathlib.Core.Bool.{Bool, false}
+use mathlib.Core.Path.{_≡_, _∙_}
+use mathlib.Core.Bool.{false}
 use mathlib.Core.Logic.{_⊎_, inl, inr}
-use mathlib.Core.List.{List}
 use Prim.Native.Nat.{ℕ, _+_, _*_, _≤_, _<_}
 use native.Mathlib.Decide.{decLt}
 use native.Mathlib.Omega.{arith}
-use lib.ListN.{length, getD, set, length-set}
+use lib.ListN.{length, length-set}
 use lib.Seq.{slice, paste, getD-set-same, getD-set-other, length-slice, length-paste, take-all}
-use Rattle.desk.specs.declared.Cell.{Cell}
 use Rattle.desk.specs.declared.Record.{Record}
 use Rattle.desk.specs.declared.Slot.{Slot}
 use Rattle.desk.specs.Desk.{pastEnd}
@@ -17,7 +15,7 @@ use Rattle.desk.specs.Rules.{withSlot}
 use Rattle.desk.specs.SameDesk.{SameDesk}
 use Rattle.lists.specs.Part.{slice-paste, slice-apart}
 use Rattle.table.specs.declared.Table.{Table}
-use Rattle.table.specs.Table.{pastClock, pastSlot, slotOf, recordOf, putBack, withSlotOf}
+use Rattle.table.specs.Table.{pastClock, pastSlot, recordOf, putBack, withSlotOf}
 
 -- the lengths of a table's arrays, which the lists behind them lack
 pub record Sized (t : Table) : Type 0 where

@@ -1,7 +1,7 @@
 -- What an event that is not refused has passed; so what holds of a refusal and of the three ways to do an event holds of every event.
 -- Assumes nothing.
-use mathlib.Core.Path.{_≡_, refl, sym, ap}
-use mathlib.Core.Bool.{Bool, true, false, not, _&&_, _||_, cond, or-true}
+use mathlib.Core.Path.{_≡_, refl, ap}
+use mathlib.Core.Bool.{Bool, true, false, not, _&&_, _||_, or-true}
 use mathlib.Core.Logic.{_⊎_, inl, inr, ⊎-elim}
 use Prim.Native.Nat.{ℕ, zero, suc, _≤_, _<_}
 use native.Mathlib.Decide.{ℕ-discrete}
@@ -14,10 +14,9 @@ use Rattle.desk.specs.declared.Event.{Event}
 use Rattle.desk.specs.declared.Slot.{Slot}
 use Rattle.desk.specs.declared.Tray.{Tray}
 use Rattle.desk.specs.Desk.{keeps, waits}
-use Rattle.desk.specs.Kept.{event-kept}
 use Rattle.desk.specs.RuleLaws.{passed, either-is, not-both}
-use Rattle.desk.specs.Rules.{eventRefusal, eventDone}
-use Rattle.desk.specs.Sound.{keeperSound, isSound}
+use Rattle.desk.specs.Rules.{eventRefusal}
+use Rattle.desk.specs.Sound.{keeperSound}
 use Rattle.desk.specs.SoundLaws.{TrayRule, SoundRule, rule-sound, no-way}
 use Rattle.lists.specs.Test.{both-left, both-right}
 use Rattle.table.specs.declared.Outcome.{Outcome}
@@ -25,7 +24,7 @@ use Rattle.table.specs.declared.Table.{Table}
 use Rattle.table.specs.Rows.{Sized}
 use Rattle.table.specs.Rules.{isOwn, isAsked, isAnswered, refusal, takeRule, bringRule, ownRule, done, unless, eventRule}
 use Rattle.table.specs.Sound.{tableSound}
-use Rattle.table.specs.SoundLaws.{TableRule, table-rule}
+use Rattle.table.specs.SoundLaws.{TableRule}
 use Rattle.table.specs.Table.{slotOf, keeperOf, recordOf}
 
 -- the outcome of a refusal

@@ -1,23 +1,19 @@
 -- Soundness of a table as a rule at each place: the test gives it, and it gives the test back.
 -- Assumes nothing.
-use mathlib.Core.Path.{_≡_, refl, ap}
-use mathlib.Core.Bool.{Bool, true, false, not, _&&_, cond}
+use mathlib.Core.Path.{_≡_, ap}
+use mathlib.Core.Bool.{true, false, not}
 use Prim.Native.Nat.{ℕ, _≤_, _<_}
 use native.Mathlib.Decide.{decLt}
 use native.Mathlib.Omega.{arith}
 use borrow.Author.Tests.{eqb-true, eq-eqb, lt-ltb, le-ltb, not-true}
-use lib.Dec.{eqb, ltb}
 use lib.ListN.{length}
-use Rattle.clock.specs.Clock.{isWithin}
 use Rattle.clock.specs.Laws.{ZeroPast, within-past, past-within}
 use Rattle.desk.specs.declared.Cell.{Cell}
 use Rattle.desk.specs.declared.Record.{Record}
 use Rattle.desk.specs.declared.Slot.{Slot}
 use Rattle.desk.specs.Desk.{pastEnd, cellAt}
-use Rattle.desk.specs.Sound.{traySound, rowSound}
 use Rattle.desk.specs.SoundLaws.{TrayRule, tray-rule, rule-tray, RowRule, row-rule, rule-row}
-use Rattle.lists.specs.Each.{mapAt}
-use Rattle.lists.specs.Test.{every, both, both-left, both-right, every-mapAt, mapAt-every}
+use Rattle.lists.specs.Test.{both, both-left, both-right, every-mapAt, mapAt-every}
 use Rattle.table.specs.declared.Table.{Table}
 use Rattle.table.specs.Rows.{Sized}
 use Rattle.table.specs.Sound.{cellZero, slotZero, rowZero, deskSound, tableSound}

@@ -1,7 +1,7 @@
 -- An event touches only the desks that its rule names, and a refused event none.
 -- Assumes nothing.
 use mathlib.Core.Path.{_≡_, refl, sym, ap, _∙_}
-use mathlib.Core.Bool.{Bool, true, false}
+use mathlib.Core.Bool.{false}
 use mathlib.Core.Logic.{_⊎_, inl, inr}
 use Prim.Native.Nat.{ℕ, zero, suc, _<_}
 use native.Mathlib.Omega.{arith}
@@ -17,7 +17,7 @@ use Rattle.desk.specs.SoundLaws.{no-way}
 use Rattle.lists.specs.Test.{whichever}
 use Rattle.table.specs.declared.Outcome.{Outcome}
 use Rattle.table.specs.declared.Table.{Table}
-use Rattle.table.specs.Rows.{Sized, row-length, put-sized, put-same, put-other, slot-sized, slot-same, slot-other}
+use Rattle.table.specs.Rows.{Sized, put-sized, put-same, put-other, slot-same, slot-other}
 use Rattle.table.specs.RuleLaws.{asked-waits, keeperFor, refused, Passed, each-event, Asks, desk-below, asks}
 use Rattle.table.specs.Rules.{isOwn, refusal, outcome, messageOf, answerSlot, served, takeRule, bringRule, ownRule, done, unless, eventRule}
 use Rattle.table.specs.SoundLaws.{TableRule, table-rule}
