@@ -91,7 +91,7 @@ stores-row : (v : Record) (c w : ℕ) → RowRule v → c < v .tray .cells → R
 stores-row v c w r h = holds-row v c (record { held = true; word = w; stamp = v .clock }) r (held-rule (v .tray) (v .desk) c w (v .clock) h (r .clock-past))
 
 -- ---- slots
-no-slot-rule : (t : Tray) (desk : ℕ) → SlotRule t desk noSlot
+pub no-slot-rule : (t : Tray) (desk : ℕ) → SlotRule t desk noSlot
 unfolding waits
 no-slot-rule t desk =
     record {
@@ -104,7 +104,7 @@ no-slot-rule t desk =
       no-clock = λ _. zero-past 0;
     }
 
-asked-rule : (t : Tray) (desk c : ℕ) → c < t .cells → keeps t desk c ≡ false → SlotRule t desk (readAsked c)
+pub asked-rule : (t : Tray) (desk c : ℕ) → c < t .cells → keeps t desk c ≡ false → SlotRule t desk (readAsked c)
 unfolding waits
 asked-rule t desk c h e =
     record {
@@ -194,7 +194,7 @@ module _ (v : Record) (long : length (v .row) ≡ 32) (r : SoundRule v) where
         asked = r .asked;
       }
 
-  event-kept : (e : Event) → Allowed v e → SoundRule (eventDone v e .after)
+  pub event-kept : (e : Event) → Allowed v e → SoundRule (eventDone v e .after)
   unfolding eventDone
   event-kept e a =
       ⊎-elim (λ k. rw (eq-eqb (e .kind) 1 k) (read-kept (e .cell) (a .in-range)))

@@ -6,13 +6,39 @@ use mathlib.Core.Bool.{true, false}
 use mathlib.Core.List.{List, [], _∷_, _++_}
 use Prim.Native.Nat.{ℕ}
 use lib.ListN.{take, replicate}
+use Rattle.lists.specs.Each.{mapAt}
 use Rattle.lists.specs.Test.{every, some}
 use Rattle.clock.specs.declared.Clock.{Clock}
-use Rattle.clock.specs.Clock.{paired, merged, isBefore}
+use Rattle.clock.specs.Clock.{number, paired, merged, isBefore, isWithin, raised}
+use Rattle.desk.specs.declared.Event.{Event}
+use Rattle.desk.specs.declared.Reply.{Reply}
+use Rattle.desk.specs.Desk.{isBlank, keeps, waits}
+use Rattle.desk.specs.Rules.{withClock, eventDone, readRule, writeRule}
+use Rattle.desk.specs.Sound.{traySound, rowSound, keeperSound, cellsSound, cellSound, slotSound, slotNames, slotCarries}
+use Rattle.table.specs.declared.Table.{Table}
+use Rattle.table.specs.Choice.{run, replies}
+use Rattle.table.specs.Rules.{isOwn, isAsked, isAnswered, refusal, outcome, ownRule, done, unless, eventRule}
+use Rattle.table.specs.SetUp.{freshTray, freshTable, setUpRefusal, answerSetUp, setUpRule}
+use Rattle.table.specs.Sound.{cellZero, slotZero, rowZero, deskSound, tableSound}
+use Rattle.table.specs.Table.{recordOf, putBack}
 
 -- a clock by its first numbers; the others are 0
 abbrev clock : List ℕ → Clock
 clock ns = record { n = take 8 (ns ++ replicate 8 0) }
+
+-- one desk, one cell, as set up; and the same with the desk's own clock number n
+abbrev single : Table
+single = setUpRule 1 1 (replicate 32 0) .table
+
+abbrev singleAt : ℕ → Table
+singleAt n = putBack single (withClock (recordOf single 0) (clock (n ∷ [])))
+
+-- an event of desk 0 and cell 0
+abbrev event : ℕ → ℕ → Event
+event kind word = record { kind = kind; desk = 0; cell = 0; word = word }
+
+abbrev reply : ℕ → ℕ → Reply
+reply code value = record { code = code; value = value; count = 0 }
 
 unfoldable pub edges : List (Type 0)
 edges =
@@ -24,6 +50,16 @@ edges =
     ∷ (isBefore (clock (0 ∷ 0 ∷ 1 ∷ [])) (clock (0 ∷ 0 ∷ 1 ∷ [])) ≡ false)
     -- P4 (1,0) and (0,1): neither is before the other
     ∷ ((isBefore (clock (1 ∷ 0 ∷ [])) (clock (0 ∷ 1 ∷ [])) ≡ false) × (isBefore (clock (0 ∷ 1 ∷ [])) (clock (1 ∷ 0 ∷ [])) ≡ false))
+    -- P5 one desk, one cell: read of a fresh table gives 2
+    ∷ (eventRule single (event 1 0) .reply ≡ reply 2 0)
+    -- P6 the same desk writes 7 and reads: 0, 7
+    ∷ (replies (run eventRule single (event 2 7 ∷ event 1 0 ∷ [])) ≡ reply 0 7 ∷ reply 0 7 ∷ [])
+    -- P7 take on an empty slot: 13
+    ∷ (eventRule single (event 3 0) .reply ≡ reply 13 0)
+    -- P8 own clock number 4,294,967,294: a keeper's write is done
+    ∷ ((eventRule (singleAt 4294967294) (event 2 7) .reply ≡ reply 0 7) × (number (recordOf (eventRule (singleAt 4294967294) (event 2 7) .after) 0 .clock) 0 ≡ 4294967295))
+    -- P9 4,294,967,295: 16
+    ∷ (eventRule (singleAt 4294967295) (event 2 7) .reply ≡ reply 16 0)
     ∷ []
 
 -- every statement of a list holds
@@ -32,5 +68,8 @@ Hold [] = Unit {0}
 Hold (p ∷ ps) = p × Hold ps
 
 pub edges-hold : Hold edges
-unfolding edges Hold merged isBefore paired every some
-edges-hold = (refl, (refl, (refl, ((refl, refl), tt))))
+unfolding edges Hold merged isBefore paired every some mapAt isWithin raised
+    setUpRule answerSetUp setUpRefusal freshTable freshTray run replies
+    eventRule unless refusal isOwn isAsked isAnswered done ownRule outcome eventDone readRule writeRule isBlank keeps waits recordOf putBack
+    tableSound deskSound rowSound rowZero traySound keeperSound cellsSound cellSound slotSound slotNames slotCarries cellZero slotZero
+edges-hold = (refl, (refl, (refl, ((refl, refl), (refl, (refl, (refl, ((refl, refl), (refl, tt)))))))))

@@ -2,7 +2,7 @@
 -- A place past the end passes where all must, and fails where one must.
 -- Assumes nothing.
 use mathlib.Core.Path.{_≡_, refl, sym, _∙_}
-use mathlib.Core.Bool.{Bool, true, false, _&&_, _||_, and-assoc, or-assoc, and-true, or-true, or-false}
+use mathlib.Core.Bool.{Bool, true, false, _&&_, _||_, cond, and-assoc, or-assoc, and-true, or-true, or-false}
 use mathlib.Core.List.{List, [], _∷_}
 use Prim.Native.Nat.{ℕ, zero, suc, _+_, _<_, _≤_}
 use native.Mathlib.Numerals.{add-one}
@@ -34,6 +34,11 @@ both-left false b e = e
 pub both-right : (a b : Bool) → (a && b) ≡ true → b ≡ true
 both-right true b e = e
 both-right false b e = cc
+
+-- what holds of both holds of the one that a test chooses
+pub whichever : {A : Type 0} (P : A → Type 0) (b : Bool) (x y : A) → P x → P y → P (cond b x y)
+whichever P true x y p q = p
+whichever P false x y p q = q
 
 pub either : (a : Bool) {b : Bool} → b ≡ true → (a || b) ≡ true
 either a p = rw (p, or-true a)

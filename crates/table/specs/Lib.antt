@@ -1,5 +1,13 @@
+pub mod Choice
+pub mod Equal
+pub mod Fresh
+pub mod Kept
+pub mod Rows
+pub mod RuleLaws
 pub mod Rules
 pub mod SetUp
 pub mod SetUpLaws
 pub mod Sound
+pub mod SoundLaws
 pub mod Table
+pub mod Touch
