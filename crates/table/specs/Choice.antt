@@ -103,9 +103,10 @@ Repeats R = (t : Table) (e : Event) (es : List Event) → R t (e ∷ es) ≡ map
 
 pub repeats-first : (R : Table → List Event → List Reply) → Repeats R → MeetsRuns R → ⊥
 repeats-first R repeats meets =
-    omega
-    (arith,
-    ap secondCode (repeats small (event 1 0) (event 2 7 ∷ [])),
-    ap secondCode (meets small twoEvents),
-    small-is .reads,
-    small-is .goes-on)
+    omega (
+      arith,
+      ap secondCode (repeats small (event 1 0) (event 2 7 ∷ [])),
+      ap secondCode (meets small twoEvents),
+      small-is .reads,
+      small-is .goes-on,
+    )

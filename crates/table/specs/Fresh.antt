@@ -23,7 +23,8 @@ use Rattle.lists.specs.Part.{getD-slice}
 use Rattle.lists.specs.Test.{every, fails, both-left, both-right, every-mapAt}
 use Rattle.table.specs.Rows.{Sized, row-length}
 use Rattle.table.specs.RuleLaws.{keeper-desk}
-use Rattle.table.specs.SetUp.{freshTray, freshCell, freshTable, setUpRefusal}
+use Rattle.table.specs.SetUp.{keeperRight, keepersRight, storedKeeper, freshTray, freshCell, freshTable, setUpRefusal}
+use Rattle.table.specs.SetUpLaws.{settled}
 use Rattle.table.specs.Sound.{tableSound}
 use Rattle.table.specs.SoundLaws.{RowNone, TableRule, rule-table}
 use Rattle.table.specs.Table.{pastClock, pastSlot, recordOf}
@@ -38,7 +39,7 @@ module _ (t : Tray) (r : TrayRule t) (long : length (t .keepers) ≡ 32) where
         all-clocks = refl;
         all-slots = refl;
         all-served = refl;
-        all-cells = length-mapAt (freshCell t) (replicate 256 noCell) ∙ length-replicate 256 noCell;
+        all-cells = length-mapAt (λ i _. freshCell t i) (replicate 256 noCell) ∙ length-replicate 256 noCell;
       }
 
   -- "each cell held by its keeper alone, with word 0 and zero stamp"
@@ -50,8 +51,8 @@ module _ (t : Tray) (r : TrayRule t) (long : length (t .keepers) ≡ 32) where
   fresh-cell p c h i =
       let desk : (p * 32 + c) / 32 ≡ p = omega arith in
       let cell : (p * 32 + c) % 32 ≡ c = omega arith in
-      getD-slice (p * 32) (p * 32 + 32) (mapAt (freshCell t) (replicate 256 noCell)) c pastEnd (omega arith)
-      ∙ getD-mapAt (freshCell t) (replicate 256 noCell) (p * 32 + c) pastEnd pastEnd (omega (arith, length-replicate 256 noCell))
+      getD-slice (p * 32) (p * 32 + 32) (mapAt (λ i _. freshCell t i) (replicate 256 noCell)) c pastEnd (omega arith)
+      ∙ getD-mapAt (λ i _. freshCell t i) (replicate 256 noCell) (p * 32 + c) pastEnd pastEnd (omega (arith, length-replicate 256 noCell))
       ∙ rw (desk, cell)
 
   -- "zero clocks, empty slots"
@@ -116,34 +117,23 @@ module _ (t : Tray) (r : TrayRule t) (long : length (t .keepers) ≡ 32) where
 module _ (desks cells : ℕ) (keepers : List ℕ) (long : length keepers ≡ 32) (none : setUpRefusal desks cells keepers ≡ 0) where
   stored : length (freshTray desks cells keepers .keepers) ≡ 32
   unfolding freshTray
-  stored = length-mapAt (λ c keeper. cond (ltb c cells) keeper 0) keepers ∙ long
+  stored = length-mapAt (storedKeeper cells) keepers ∙ long
 
   fresh-tray : TrayRule (freshTray desks cells keepers)
-  unfolding setUpRefusal freshTray keeperSound
+  unfolding freshTray keeperSound keepersRight
   fresh-tray =
-      let d = passed (not (leb 1 desks && leb desks 8)) 19 _ none in
-      let c = passed (not (leb 1 cells && leb cells 32)) 20 _ (d .1) in
-      let k = passed (not (every (mapAt is-desk keepers))) 21 0 (c .1) in
-      let in-desks = not-false (leb 1 desks && leb desks 8) (d .0) in
-      let in-cells = not-false (leb 1 cells && leb cells 32) (c .0) in
-      let are-desks = not-false (every (mapAt is-desk keepers)) (k .0) in
+      let s = settled desks cells keepers none in
       record {
-        some-desk = leb-true 1 desks (search (both-left, both-right));
-        desks-most = leb-true desks 8 (search (both-left, both-right));
-        some-cell = leb-true 1 cells (search (both-left, both-right));
-        cells-most = leb-true cells 32 (search (both-left, both-right));
+        some-desk = s .some-desk;
+        desks-most = s .desks-most;
+        some-cell = s .some-cell;
+        cells-most = s .cells-most;
         keeper-is =
             λ c h.
-            let i : c < length keepers = omega (arith, length-mapAt put keepers) in
-            rw (getD-mapAt put keepers c 0 0 i) (keeper (ltb c cells) (getD keepers c 0) (every-mapAt is-desk keepers 0 are-desks c i));
+            let i : c < length keepers = omega (arith, length-mapAt (storedKeeper cells) keepers) in
+            rw (getD-mapAt (storedKeeper cells) keepers c 0 0 i) (keeper (ltb c cells) (getD keepers c 0) (every-mapAt (keeperRight desks cells) keepers 0 (s .right) c i));
       }
     where
-      put : ℕ → ℕ → ℕ
-      put c keeper = cond (ltb c cells) keeper 0
-
-      is-desk : ℕ → ℕ → Bool
-      is-desk c keeper = not (ltb c cells) || ltb keeper desks
-
       keeper : (b : Bool) (k : ℕ) → (not b || ltb k desks) ≡ true → cond b (ltb (cond b k 0) desks) (eqb (cond b k 0) 0) ≡ true
       keeper true k e = e
       keeper false k e = refl

@@ -106,7 +106,7 @@ pass t e p =
     }
 
 -- a kind 1 to 5 that is neither 3 nor 4 is a desk's own
-own-kind : (t : Table) (e : Event) → Passed t e → (e .kind ≡ 3 → ⊥) → (e .kind ≡ 4 → ⊥) → isOwn e ≡ true
+pub own-kind : (t : Table) (e : Event) → Passed t e → (e .kind ≡ 3 → ⊥) → (e .kind ≡ 4 → ⊥) → isOwn e ≡ true
 unfolding isOwn
 own-kind t e a p q =
     let least : 1 ≤ e .kind = leb-true 1 (e .kind) (search (both-left, both-right)) in

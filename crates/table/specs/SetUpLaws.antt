@@ -31,7 +31,7 @@ settled desks cells keepers e =
       desks-most = leb-true desks 8 (search (both-left, both-right));
       some-cell = leb-true 1 cells (search (both-left, both-right));
       cells-most = leb-true cells 32 (search (both-left, both-right));
-      right = not-false (keepersRight desks cells keepers) (k .0)
+      right = not-false (keepersRight desks cells keepers) (k .0);
     }
 
 pub keeper-below : {desks cells : ℕ} {keepers : List ℕ} → Settled desks cells keepers → (c : ℕ) → c < cells → c < length keepers → getD keepers c 0 < desks

@@ -97,7 +97,7 @@ pub(crate) fn refusal(t: Table, e: Event) -> u32
 }
 
 pub(crate) fn own(t: Table, e: Event) -> Outcome
-    requires { ⌜ (e .desk < 8) × (e .cell < 32) × (e .kind ≡ 2 → number (recordOf t (e .desk) .clock) (e .desk) < 4294967295) ⌝ }
+    requires { ⌜ (e .desk < 8) × (e .cell < 32) × (e .kind ≡ 2 → number (recordOf t (e .desk) .clock) (e .desk) ≡ 4294967295 → ⊥) ⌝ }
     ensures { λ r. ⌜ r ≡ ownRule t e ⌝ }
 {
     let desk = e.desk as u8;

@@ -1,5 +1,9 @@
 use borrow.Author.Needs.{needs}
 use native.Mathlib.Omega.{arith}
+use mathlib.Core.Path.{_≡_, ap}
+use Rattle.table.specs.Rules.{outcome, messageOf, bringRule}
+use Rattle.table.specs.Table.{recordOf}
+use Rattle.desk.specs.SameDesk.{bring-same}
 use Rattle.table.proofs.moving.bring.Statement.{statement}
 use Rattle.table.proofs.moving.bring.Tie as tie
 use Rattle.table.proofs.moving.bring.Reads as reads
@@ -10,19 +14,22 @@ use Rattle.table.proofs.rows.put_back.Reads as put-back-reads
 use Rattle.table.proofs.rows.record_of.Reads as record-of-reads
 
 record-of-requires : tie.Need-record-of-requires
-record-of-requires c κs = ?
+record-of-requires c κs = c .pre .0
 
 message-of-requires : tie.Need-message-of-requires
 message-of-requires c κs = search needs
 
 bring-done-requires : tie.Need-bring-done-requires
-bring-done-requires c κs = ?
+unfolding messageOf
+bring-done-requires c κs = rw (c .message-of .ensures) (c .before .before .pre .1)
 
 put-back-requires : tie.Need-put-back-requires
-put-back-requires c κs = ?
+unfolding recordOf
+put-back-requires c κs = rw (c .before .bring-done .ensures, bring-same (c .before .before .before .record-of .result) (c .before .before .message-of .result) .same-number, c .before .before .before .record-of .ensures) (c .before .before .before .before .pre .0)
 
 returns : tie.Need-returns
-returns c = ?
+unfolding bringRule outcome
+returns c = rw (c .put-back .ensures, c .before .before .bring-done .ensures, c .before .before .before .message-of .ensures, c .before .before .before .before .record-of .ensures)
 
 pub bring-spec : {M : Type 1} → statement M
 bring-spec =

@@ -1,5 +1,15 @@
 use borrow.Author.Needs.{needs}
 use native.Mathlib.Omega.{arith}
+use mathlib.Core.Path.{_≡_, ap, sym, subst, _∙_}
+use Prim.Native.Nat.{_<_}
+use mir.Syntax.{w32}
+use mir.Val.{Fits}
+use Rattle.clock.specs.Clock.{number}
+use Rattle.desk.specs.declared.Record.{Record}
+use Rattle.table.specs.Rules.{outcome, ownRule}
+use Rattle.table.specs.Table.{recordOf}
+use Rattle.desk.specs.SameDesk.{event-same}
+use Rattle.desk.specs.declared.Step.{Step}
 use Rattle.table.proofs.moving.own.Statement.{statement}
 use Rattle.table.proofs.moving.own.Tie as tie
 use Rattle.table.proofs.moving.own.Reads as reads
@@ -12,16 +22,25 @@ cast-desk : tie.Need-cast-desk
 cast-desk c = search needs
 
 record-of-requires : tie.Need-record-of-requires
-record-of-requires c κs = ?
+record-of-requires c κs = c .before .pre .0
 
 event-done-requires : tie.Need-event-done-requires
-event-done-requires c κs = ?
+unfolding recordOf
+event-done-requires c κs =
+    let v = c .record-of .result in
+    let same = c .record-of .ensures in
+    let pre = c .before .before .pre in
+    let fits : Fits w32 (number (v .clock) (v .desk)) = search needs in
+    let left : c .before .before .args .e .kind ≡ 2 → number (v .clock) (v .desk) ≡ 4294967295 → ⊥ = λ k q. pre .2 k (ap (λ (u : Record). number (u .clock) (u .desk)) (sym same) ∙ q) in
+    (pre .1, subst (λ (u : Record). u .desk < 8) (sym same) (pre .0), λ k. let none = left k in omega (arith, fits, none))
 
 put-back-requires : tie.Need-put-back-requires
-put-back-requires c κs = ?
+unfolding recordOf
+put-back-requires c κs = rw (c .before .event-done .ensures, event-same (c .before .before .record-of .result) (c .before .before .before .before .args .e) .same-number, c .before .before .record-of .ensures) (c .before .before .before .before .pre .0)
 
 returns : tie.Need-returns
-returns c = ?
+unfolding ownRule outcome
+returns c = rw (c .put-back .ensures, c .before .before .event-done .ensures, c .before .before .before .record-of .ensures)
 
 pub own-spec : {M : Type 1} → statement M
 own-spec =

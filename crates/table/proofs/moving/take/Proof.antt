@@ -1,5 +1,9 @@
 use borrow.Author.Needs.{needs}
 use native.Mathlib.Omega.{arith}
+use mathlib.Core.Path.{_≡_, ap}
+use Rattle.table.specs.Rules.{messageOf, served, takeRule}
+use Rattle.table.specs.Table.{recordOf, withSlotOf}
+use Rattle.desk.specs.SameDesk.{serve-same}
 use Rattle.table.proofs.moving.take.Statement.{statement}
 use Rattle.table.proofs.moving.take.Tie as tie
 use Rattle.table.proofs.moving.take.Reads as reads
@@ -16,16 +20,20 @@ cast-c : tie.Need-cast-c
 cast-c c = search needs
 
 array-read-keeper : tie.Need-array-read-keeper
-array-read-keeper c = ?
+unfolding messageOf
+array-read-keeper c = rw (c .before .before .message-of .ensures) (c .before .before .before .pre .1)
 
 record-of-requires : tie.Need-record-of-requires
-record-of-requires c κs = ?
+unfolding messageOf
+record-of-requires c κs = rw (c .before .before .message-of .ensures) (c .before .before .before .pre .3)
 
 serve-done-requires : tie.Need-serve-done-requires
-serve-done-requires c κs = ?
+unfolding messageOf
+serve-done-requires c κs = rw (c .before .before .before .message-of .ensures) (c .before .before .before .before .pre .1, c .before .before .before .before .pre .2)
 
 put-back-requires : tie.Need-put-back-requires
-put-back-requires c κs = ?
+unfolding recordOf messageOf
+put-back-requires c κs = rw (c .before .before .before .serve-done .ensures, serve-same (c .before .before .before .before .record-of .result) (c .before .before .before .before .before .before .before .message-of .result) .same-number, c .before .before .before .before .record-of .ensures, c .before .before .before .before .before .before .before .message-of .ensures) (c .before .before .before .before .before .before .before .before .pre .3)
 
 mul-t19 : tie.Need-mul-t19
 mul-t19 c = search needs
@@ -34,7 +42,8 @@ element-set-from-after : tie.Need-element-set-from-after
 element-set-from-after c = search needs
 
 returns : tie.Need-returns
-returns c = ?
+unfolding takeRule served withSlotOf messageOf
+returns c = rw (c .put-back .ensures, c .before .before .before .before .serve-done .ensures, c .before .before .before .before .before .record-of .ensures, c .before .before .before .before .before .before .before .before .message-of .ensures)
 
 pub take-spec : {M : Type 1} → statement M
 take-spec =

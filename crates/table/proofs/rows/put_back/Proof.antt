@@ -69,8 +69,8 @@ loop-again c =
     let v = at-loop .before .args .t2 in
     let k = at-loop .loop .c in
     let e = at-loop .loop .inv .1 in
-    let cells : length (t .cells) ≡ 256 = search (needs, length-mapped) depth 9 in
-    let row : length (v .row) ≡ 32 = search (needs, length-mapped) in
+    let cells : length (t .cells) ≡ 256 = search (needs, length-mapped, at-loop .before .good .0) in
+    let row : length (v .row) ≡ 32 = search (needs, length-mapped, at-loop .before .good .1 .0) in
     let turn = paste-suc (t .cells) (v .desk * 32) (v .row) k pastEnd (omega (arith, at-loop .before .pre)) (omega arith) ∙ ap (λ (n : ℕ). paste (t .cells) (v .desk * 32) (v .row) n) (sym (add-one k)) in
     (omega arith, λ i. record { tray = e i .tray; clocks = e i .clocks; slots = e i .slots; served = e i .served; cells = (ap (λ (x : Table). set (x .cells) (v .desk * 32 + k) (cellAt (v .row) k)) e ∙ turn) i })
 

@@ -37,13 +37,13 @@ tray-sound-requires c κs = search needs
 
 returns : tie.Need-returns Inv-loop μ-loop
 unfolding tableSound
-returns c = ?
+returns c = rw (← c .before .tray-sound .ensures, not-true (c .before .tray-sound .result) (c .if1 .taken))
 
 loop-holds : tie.Need-loop-holds Inv-loop μ-loop
-loop-holds c = ?
+loop-holds c = (search needs, tray-rule (c .before .before .args .t .tray) (sym (c .before .tray-sound .ensures) ∙ not-false (c .before .tray-sound .result) (c .if1 .left)) .cells-most, refl)
 
 desk-sound-requires : tie.Need-desk-sound-requires Inv-loop μ-loop
-desk-sound-requires c κs = ?
+desk-sound-requires c κs = (omega arith, c .before .loop .inv .1)
 
 add-desk : tie.Need-add-desk Inv-loop μ-loop
 add-desk c = search needs
@@ -52,11 +52,20 @@ loop-less : tie.Need-loop-less Inv-loop μ-loop
 loop-less c = search needs
 
 loop-again : tie.Need-loop-again Inv-loop μ-loop
-loop-again c = ?
+loop-again c =
+    let at-loop = c .before .before in
+    let t = c .before .before .before .before .before .args .t in
+    let long : length (t .clocks) ≡ 8 = search (needs, length-mapped, c .before .before .before .before .before .good .0) in
+    (omega arith, at-loop .loop .inv .1, rw (c .desk-sound .ensures) (mapAt-turn (sound-at t) (t .clocks) pastClock (at-loop .loop .desk) (at-loop .loop .ok) (omega arith) (at-loop .loop .inv .2)))
 
 returns-2 : tie.Need-returns-2 Inv-loop μ-loop
 unfolding tableSound
-returns-2 c = ?
+returns-2 c =
+    let at-loop = c .before in
+    let t = c .before .before .before .before .args .t in
+    let long : length (t .clocks) ≡ 8 = search (needs, length-mapped, c .before .before .before .before .good .0) in
+    rw (← c .before .before .before .tray-sound .ensures, not-false (c .before .before .before .tray-sound .result) (c .before .before .if1 .left))
+    (sym (mapAt-end (sound-at t) (t .clocks) pastClock (at-loop .loop .desk) (at-loop .loop .ok) (omega arith) (at-loop .loop .inv .2)))
 
 pub sound-spec : {M : Type 1} → statement M
 sound-spec =

@@ -1,6 +1,10 @@
 use borrow.Author.Needs.{needs}
 use native.Mathlib.Omega.{arith}
 use borrow.Author.Tests.{lt-ltb, le-ltb, le-leb, lt-leb, eq-eqb, ne-eqb, not-true, not-false, ltb-true}
+use mathlib.Core.Bool.{_&&_}
+use lib.Dec.{leb}
+use borrow.Author.Tests.{leb-true}
+use Rattle.lists.specs.Test.{both-right}
 use Rattle.table.specs.SetUp.{setUpRefusal}
 use Rattle.table.proofs.setting.refusal.Statement.{statement}
 use Rattle.table.proofs.setting.refusal.Tie as tie
@@ -17,7 +21,9 @@ unfolding setUpRefusal
 returns-2 c = rw (c .before .if1 .left, c .if2 .taken)
 
 keepers-right-requires : tie.Need-keepers-right-requires
-keepers-right-requires c κs = ?
+keepers-right-requires c κs =
+    let cells = c .before .before .args .cells in
+    leb-true cells 32 (both-right (leb 1 cells) (leb cells 32) (not-false (leb 1 cells && leb cells 32) (c .if2 .left)))
 
 returns-3 : tie.Need-returns-3
 unfolding setUpRefusal

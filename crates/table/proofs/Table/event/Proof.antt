@@ -1,0 +1,81 @@
+use borrow.Author.Needs.{needs}
+use native.Mathlib.Omega.{arith}
+use mathlib.Core.Path.{_≡_, sym, _∙_}
+use borrow.Author.Tests.{lt-ltb, le-ltb, le-leb, lt-leb, eq-eqb, ne-eqb, not-true, not-false, ltb-true}
+use Rattle.lists.specs.Each.{length-mapped}
+use Rattle.table.specs.Rules.{unless, done, eventRule}
+use Rattle.table.specs.Places.{desk-there, unless-refused, take-there, bring-there, own-there}
+use Rattle.table.specs.Rows.{Sized}
+use Rattle.table.specs.RuleLaws.{pass}
+use Rattle.table.proofs.Table.event.Statement.{statement}
+use Rattle.table.proofs.Table.event.Tie as tie
+use Rattle.table.proofs.Table.event.Reads as reads
+use Rattle.table.proofs.Table.event.Lts as lts
+use Rattle.table.proofs.moving.bring.Reads as bring-reads
+use Rattle.table.proofs.moving.own.Reads as own-reads
+use Rattle.table.proofs.moving.refusal.Reads as refusal-reads
+use Rattle.table.proofs.moving.take.Reads as take-reads
+use Rattle.table.proofs.refused.Reads as refused-reads
+
+refusal-requires : tie.Need-refusal-requires
+refusal-requires c κs = search needs
+
+refused-requires : tie.Need-refused-requires
+refused-requires c κs = search needs
+
+returns : tie.Need-returns
+unfolding eventRule
+returns c = rw (← c .before .before .refusal .ensures) (c .refused .ensures ∙ sym (unless-refused (c .before .before .refusal .result) (c .before .before .before .args .self) (done (c .before .before .before .args .self) (c .before .before .before .args .e)) (c .before .if1 .taken)))
+
+cast-desk : tie.Need-cast-desk
+cast-desk c =
+    let a = pass (c .before .before .before .args .self) (c .before .before .before .args .e) (sym (c .before .before .refusal .ensures) ∙ c .before .if1 .left) in
+    omega (arith, desk-there (c .before .before .before .args .self) (a .sound) (c .before .before .before .args .e .desk) (a .desk-is))
+
+take-requires : tie.Need-take-requires
+take-requires c κs =
+    let t = c .before .before .before .before .args .self in
+    let e = c .before .before .before .before .args .e in
+    let z : Sized t = record { all-keepers = search (needs, c .before .before .before .before .good .0); all-clocks = search (needs, length-mapped, c .before .before .before .before .good .0); all-slots = search (needs, length-mapped, c .before .before .before .before .good .0); all-served = search (needs, length-mapped, c .before .before .before .before .good .0); all-cells = search (needs, length-mapped, c .before .before .before .before .good .0) } in
+    take-there t z e (pass t e (sym (c .before .before .before .refusal .ensures) ∙ c .before .before .if1 .left)) (c .if2 .taken)
+
+returns-2 : tie.Need-returns-2
+unfolding eventRule done unless
+returns-2 c = rw (← c .before .before .before .before .refusal .ensures, c .before .before .before .if1 .left, eq-eqb _ _ (c .before .if2 .taken)) (c .take .ensures)
+
+bring-requires : tie.Need-bring-requires
+bring-requires c κs =
+    let t = c .before .before .before .before .before .args .self in
+    let e = c .before .before .before .before .before .args .e in
+    let z : Sized t = record { all-keepers = search (needs, c .before .before .before .before .before .good .0); all-clocks = search (needs, length-mapped, c .before .before .before .before .before .good .0); all-slots = search (needs, length-mapped, c .before .before .before .before .before .good .0); all-served = search (needs, length-mapped, c .before .before .before .before .before .good .0); all-cells = search (needs, length-mapped, c .before .before .before .before .before .good .0) } in
+    bring-there t z e (pass t e (sym (c .before .before .before .before .refusal .ensures) ∙ c .before .before .before .if1 .left)) (c .if3 .taken)
+
+returns-3 : tie.Need-returns-3
+unfolding eventRule done unless
+returns-3 c = rw (← c .before .before .before .before .before .refusal .ensures, c .before .before .before .before .if1 .left, ne-eqb _ _ (c .before .before .if2 .left), eq-eqb _ _ (c .before .if3 .taken)) (c .bring .ensures)
+
+own-requires : tie.Need-own-requires
+own-requires c κs =
+    let t = c .before .before .before .before .before .args .self in
+    let e = c .before .before .before .before .before .args .e in
+    let z : Sized t = record { all-keepers = search (needs, c .before .before .before .before .before .good .0); all-clocks = search (needs, length-mapped, c .before .before .before .before .before .good .0); all-slots = search (needs, length-mapped, c .before .before .before .before .before .good .0); all-served = search (needs, length-mapped, c .before .before .before .before .before .good .0); all-cells = search (needs, length-mapped, c .before .before .before .before .before .good .0) } in
+    own-there t z e (pass t e (sym (c .before .before .before .before .refusal .ensures) ∙ c .before .before .before .if1 .left)) (c .before .if2 .left) (c .if3 .left)
+
+returns-4 : tie.Need-returns-4
+unfolding eventRule done unless
+returns-4 c = rw (← c .before .before .before .before .before .refusal .ensures, c .before .before .before .before .if1 .left, ne-eqb _ _ (c .before .before .if2 .left), ne-eqb _ _ (c .before .if3 .left)) (c .own .ensures)
+
+pub event-spec : {M : Type 1} → statement M
+event-spec =
+    tie.close
+    (tie.spec
+    refusal-requires
+    refused-requires
+    returns
+    cast-desk
+    take-requires
+    returns-2
+    bring-requires
+    returns-3
+    own-requires
+    returns-4)

@@ -1,0 +1,71 @@
+-- What the code needs to know of an event that is not refused: every place that it names is there.
+-- Assumes nothing.
+use mathlib.Core.Path.{_≡_, refl}
+use mathlib.Core.Bool.{Bool, true, false, not, _&&_, _||_, or-true}
+use mathlib.Core.Logic.{⊎-elim}
+use Prim.Native.Nat.{ℕ, zero, suc, _≤_, _<_}
+use native.Mathlib.Omega.{arith}
+use borrow.Author.Tests.{ltb-true, eqb-false, eq-eqb, not-false}
+use lib.Dec.{eqb, ltb}
+use Rattle.clock.specs.Clock.{number}
+use Rattle.desk.specs.declared.Event.{Event}
+use Rattle.desk.specs.RuleLaws.{not-both}
+use Rattle.desk.specs.SoundLaws.{TrayRule, tray-rule}
+use Rattle.lists.specs.Test.{both-left}
+use Rattle.table.specs.declared.Outcome.{Outcome}
+use Rattle.table.specs.declared.Table.{Table}
+use Rattle.table.specs.Rows.{Sized}
+use Rattle.table.specs.RuleLaws.{Passed, asked-kind, asked-waits, answered-waits, own-kind, asks, keeperFor}
+use Rattle.table.specs.Rules.{refusedWith, unless}
+use Rattle.table.specs.Sound.{tableSound}
+use Rattle.table.specs.SoundLaws.{table-rule}
+use Rattle.table.specs.Table.{slotOf, keeperOf, recordOf}
+
+pub sound-tray : (t : Table) → tableSound t ≡ true → TrayRule (t .tray)
+unfolding tableSound
+sound-tray t e = tray-rule (t .tray) (search both-left)
+
+pub desk-there : (t : Table) → tableSound t ≡ true → (desk : ℕ) → desk < t .tray .desks → desk < 8
+desk-there t e desk h = omega (arith, sound-tray t e .desks-most)
+
+-- a drop that is in range names a place of the row
+pub drop-there : (t : Table) (e : Event) → tableSound t ≡ true
+    → ((eqb (e .kind) 1 || eqb (e .kind) 2 || eqb (e .kind) 5) && not (ltb (e .cell) (t .tray .cells))) ≡ false → e .kind ≡ 5 → e .cell < 32
+drop-there t e sound range k =
+    let own : (eqb (e .kind) 1 || eqb (e .kind) 2 || eqb (e .kind) 5) ≡ true = rw (eq-eqb (e .kind) 5 k, or-true (eqb (e .kind) 1 || eqb (e .kind) 2)) in
+    let below = ltb-true (e .cell) (t .tray .cells) (not-false (ltb (e .cell) (t .tray .cells)) (not-both (eqb (e .kind) 1 || eqb (e .kind) 2 || eqb (e .kind) 5) (not (ltb (e .cell) (t .tray .cells))) range own)) in
+    omega (arith, below, sound-tray t sound .cells-most)
+
+pub unless-refused : (n : ℕ) (t : Table) (o : Outcome) → (n ≡ 0 → ⊥) → unless n t o ≡ refusedWith n t
+unfolding unless
+unless-refused zero t o some = absurd (some refl)
+unless-refused (suc n) t o some = refl
+
+module _ (t : Table) (z : Sized t) (e : Event) (a : Passed t e) where
+  pub take-there : e .kind ≡ 3
+      → (e .desk < 8) × (slotOf t (e .desk) .cell < 32) × (slotOf t (e .desk) .kind < 3) × (keeperOf t (slotOf t (e .desk) .cell) < 8)
+  take-there k =
+      let asked = a .asked k in
+      let tray = sound-tray t (a .sound) in
+      let to = asks t z (table-rule t z (a .sound)) (e .desk) (a .desk-is) (asked-waits (slotOf t (e .desk)) asked) in (
+        omega (arith, a .desk-is, tray .desks-most),
+        omega (arith, to .cell-is, tray .cells-most),
+        ⊎-elim (λ q. omega arith) (λ q. omega arith) (asked-kind (slotOf t (e .desk)) asked),
+        omega (arith, to .keeper-is, tray .desks-most),
+      )
+
+  pub bring-there : e .kind ≡ 4 → (e .desk < 8) × (slotOf t (e .desk) .cell < 32)
+  bring-there k =
+      let tray = sound-tray t (a .sound) in
+      let to = asks t z (table-rule t z (a .sound)) (e .desk) (a .desk-is) (answered-waits (slotOf t (e .desk)) (a .answered k)) in
+      (omega (arith, a .desk-is, tray .desks-most), omega (arith, to .cell-is, tray .cells-most))
+
+  pub own-there : (e .kind ≡ 3 → ⊥) → (e .kind ≡ 4 → ⊥)
+      → (e .desk < 8) × (e .cell < 32) × (e .kind ≡ 2 → number (recordOf t (e .desk) .clock) (e .desk) ≡ 4294967295 → ⊥)
+  own-there p q =
+      let tray = sound-tray t (a .sound) in
+      let own = own-kind t e a p q in (
+        omega (arith, a .desk-is, tray .desks-most),
+        omega (arith, a .in-range own, tray .cells-most),
+        λ k. eqb-false (number (recordOf t (e .desk) .clock) (e .desk)) 4294967295 (not-both (eqb (e .kind) 2) (eqb (number (recordOf t (e .desk) .clock) (e .desk)) 4294967295) (a .below) (eq-eqb (e .kind) 2 k)),
+      )
