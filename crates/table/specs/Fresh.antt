@@ -22,10 +22,9 @@ use Rattle.lists.specs.Each.{mapAt, length-mapAt, getD-mapAt}
 use Rattle.lists.specs.Part.{getD-slice}
 use Rattle.lists.specs.Test.{every, fails, both-left, both-right, every-mapAt}
 use Rattle.table.specs.Rows.{Sized, row-length}
-use Rattle.table.specs.RuleLaws.{keeper-desk}
 use Rattle.table.specs.SetUp.{freshTray, freshCell, freshTable, setUpRefusal}
 use Rattle.table.specs.Sound.{tableSound}
-use Rattle.table.specs.SoundLaws.{RowNone, TableRule, rule-table}
+use Rattle.table.specs.SoundLaws.{RowNone, TableRule, rule-table, keeper-desk}
 use Rattle.table.specs.Table.{pastClock, pastSlot, recordOf}
 
 -- ---- on any tray that is sound
@@ -78,6 +77,7 @@ module _ (t : Tray) (r : TrayRule t) (long : length (t .keepers) ≡ 32) where
   unfolding freshTable
   tray-fresh =
       record {
+        sized = tray-sized;
         tray-is = r;
         row-is = λ p h. let i : p < 8 = omega (arith, r .desks-most) in rw (fresh-record p i) (present p h i);
         row-none = λ p h i. rw (fresh-record p i) (absent p h i);
@@ -152,4 +152,4 @@ module _ (desks cells : ℕ) (keepers : List ℕ) (long : length keepers ≡ 32)
   fresh-sized = tray-sized (freshTray desks cells keepers) fresh-tray stored
 
   pub fresh-sound : tableSound (freshTable (freshTray desks cells keepers)) ≡ true
-  fresh-sound = rule-table (freshTable (freshTray desks cells keepers)) fresh-sized (tray-fresh (freshTray desks cells keepers) fresh-tray stored)
+  fresh-sound = rule-table (freshTable (freshTray desks cells keepers)) (tray-fresh (freshTray desks cells keepers) fresh-tray stored)
