@@ -57,7 +57,8 @@ edges =
     -- P7 take on an empty slot: 13
     ∷ (eventRule single (event 3 0) .reply ≡ reply 13 0)
     -- P8 own clock number 4,294,967,294: a keeper's write is done
-    ∷ ((eventRule (singleAt 4294967294) (event 2 7) .reply ≡ reply 0 7) × (number (recordOf (eventRule (singleAt 4294967294) (event 2 7) .after) 0 .clock) 0 ≡ 4294967295))
+    ∷ ((eventRule (singleAt 4294967294) (event 2 7) .reply ≡ reply 0 7)
+    × (number (recordOf (eventRule (singleAt 4294967294) (event 2 7) .after) 0 .clock) 0 ≡ 4294967295))
     -- P9 4,294,967,295: 16
     ∷ (eventRule (singleAt 4294967295) (event 2 7) .reply ≡ reply 16 0)
     ∷ []

@@ -1,7 +1,8 @@
--- Promises that leave no choice. A promise of this library says that a result is what a definition gives; so two results that meet it are
--- equal, and an engine that meets the event's gives exactly the rules' replies and tables over whole runs. Four engines that do not meet it.
+-- Promises that leave no choice. A promise of this library says that a result is what a definition gives. So two results that meet it are
+-- equal, and an engine that meets the event's gives exactly the rules' replies and tables over whole runs. Four engines do not meet it.
 -- Assumes nothing.
 use mathlib.Core.Path.{_≡_, refl, sym, ap, ap₂, _∙_}
+use mathlib.Core.Bool.{true}
 use mathlib.Core.List.{List, [], _∷_, map}
 use Prim.Native.Nat.{ℕ, _<_}
 use native.Mathlib.Omega.{arith}
@@ -13,9 +14,11 @@ use Rattle.desk.specs.Desk.{cellAt, keeps, waits, isBlank}
 use Rattle.desk.specs.Rules.{eventDone, readRule, writeRule}
 use Rattle.desk.specs.Sound.{traySound, rowSound, keeperSound, cellsSound, cellSound, slotSound, slotNames, slotCarries}
 use Rattle.lists.specs.Each.{mapAt}
-use Rattle.lists.specs.Test.{every}
+use Rattle.lists.specs.Test.{every, both}
 use Rattle.table.specs.declared.Outcome.{Outcome}
 use Rattle.table.specs.declared.Table.{Table}
+use Rattle.table.specs.Kept.{event-sized, event-sound}
+use Rattle.table.specs.Rows.{Sized}
 use Rattle.table.specs.Rules.{isOwn, isAsked, isAnswered, refusal, outcome, ownRule, done, unless, eventRule}
 use Rattle.table.specs.Sound.{cellZero, slotZero, rowZero, deskSound, tableSound}
 use Rattle.table.specs.Table.{recordOf, putBack}
@@ -44,7 +47,16 @@ Meets E = (t : Table) (e : Event) → E t e ≡ eventRule t e
 pub run-is : (E : Engine) → Meets E → (t : Table) (es : List Event) → run E t es ≡ run eventRule t es
 unfolding run
 run-is E meets t [] = refl
-run-is E meets t (e ∷ es) = ap₂ _∷_ (meets t e) (run-is E meets (E t e .after) es ∙ ap (λ (o : Outcome). run eventRule (o .after) es) (meets t e))
+run-is E meets t (e ∷ es) =
+    ap₂ _∷_ (meets t e) (run-is E meets (E t e .after) es ∙ ap (λ (o : Outcome). run eventRule (o .after) es) (meets t e))
+
+-- a run that starts from a sound table has sound tables only: soundness need be tested but once
+pub run-sound : (t : Table) (es : List Event) → Sized t → tableSound t ≡ true
+    → every (map (λ (o : Outcome). tableSound (o .after)) (run eventRule t es)) ≡ true
+unfolding run every
+run-sound t [] z ok = refl
+run-sound t (e ∷ es) z ok =
+    both (event-sound t e z ok) (run-sound (eventRule t e .after) es (event-sized t e z) (event-sound t e z ok))
 
 -- ---- four engines that do not meet it
 -- one desk, one cell, and what the rules say there of a read, a take, a write, and a write after a read
@@ -73,10 +85,9 @@ record Small : Type 0 where
   goes-on : secondCode (replies (run eventRule small twoEvents)) ≡ 0
 
 small-is : Small
-unfolding run replies
-    eventRule unless refusal isOwn isAsked isAnswered done ownRule outcome eventDone readRule writeRule isBlank keeps waits raised recordOf putBack
-    tableSound deskSound rowSound rowZero traySound keeperSound cellsSound cellSound slotSound slotNames slotCarries cellZero slotZero isWithin
-    freshTable freshTray every mapAt
+unfolding run replies freshTable freshTray recordOf putBack every mapAt isWithin raised
+    eventRule unless refusal isOwn isAsked isAnswered done ownRule outcome eventDone readRule writeRule isBlank keeps waits
+    tableSound deskSound rowSound rowZero traySound keeperSound cellsSound cellSound slotSound slotNames slotCarries cellZero slotZero
 small-is = record { reads = refl; takes = refl; writes = refl; goes-on = refl }
 
 -- one that refuses all events
@@ -103,9 +114,10 @@ Repeats R = (t : Table) (e : Event) (es : List Event) → R t (e ∷ es) ≡ map
 
 pub repeats-first : (R : Table → List Event → List Reply) → Repeats R → MeetsRuns R → ⊥
 repeats-first R repeats meets =
-    omega
-    (arith,
-    ap secondCode (repeats small (event 1 0) (event 2 7 ∷ [])),
-    ap secondCode (meets small twoEvents),
-    small-is .reads,
-    small-is .goes-on)
+    omega (
+      arith,
+      ap secondCode (repeats small (event 1 0) (event 2 7 ∷ [])),
+      ap secondCode (meets small twoEvents),
+      small-is .reads,
+      small-is .goes-on,
+    )

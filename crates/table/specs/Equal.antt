@@ -21,9 +21,10 @@ use Rattle.desk.specs.Kept.{event-kept, asked-rule, full-rule, slot-row}
 use Rattle.desk.specs.RuleLaws.{allowed}
 use Rattle.desk.specs.Rules.{withSlot, slotMessage, readAsked, writeAsked, eventRefusal, eventDone, takes, readServed, writeServed, serveDone, ofTray, fitsServe, serveRefusal, serveRule, fitsBring, brings, bringDone, bringRefusal, unless}
 use Rattle.desk.specs.Rules as rules
-use Rattle.desk.specs.SameDesk.{SameDesk, serve-answers, event-same, bring-same}
+use Rattle.desk.specs.SameDesk.{serve-answers, event-same, bring-same}
 use Rattle.desk.specs.Sound.{isSound}
 use Rattle.desk.specs.SoundLaws.{SlotRule, rule-sound}
+use Rattle.desk.specs.StepLaws.{event-told}
 use Rattle.lists.specs.Test.{both}
 use Rattle.table.specs.declared.Outcome.{Outcome}
 use Rattle.table.specs.declared.Table.{Table}
@@ -33,7 +34,7 @@ use Rattle.table.specs.Rules.{isOwn, isAsked, isAnswered, refusal, outco
 use Rattle.table.specs.Sound.{tableSound}
 use Rattle.table.specs.SoundLaws.{TableRule, table-rule}
 use Rattle.table.specs.Touch.{asker-after, keeper-after}
-use Rattle.table.specs.Table.{slotOf, recordOf, putBack}
+use Rattle.table.specs.Table.{slotOf, recordOf}
 
 -- ---- a desk's own record, where "a full slot stays asked until the answer is brought"
 unfoldable pub askedSlot : Slot → Slot
@@ -132,7 +133,8 @@ bring-asking v m = refl
 -- the message of an answered slot is the answer that was put there
 answer-message : (v : Record) (m : Message) (on : Bool) → m .desks ≡ v .tray .desks → m .desk ≡ v .desk
     → slotMessage (withSlot v (answerSlot m) on) (answerSlot m) ≡ m
-answer-message v m on p q = λ i. record { kind = m .kind; desks = sym p i; desk = sym q i; cell = m .cell; word = m .word; clock = m .clock }
+answer-message v m on p q =
+    λ i. record { kind = m .kind; desks = sym p i; desk = sym q i; cell = m .cell; word = m .word; clock = m .clock }
 
 -- ---- the theorems
 -- what the desk's part does: the desk at its own event, the keeper at a take, the desk at a bring
@@ -157,10 +159,6 @@ module _ (t : Table) (e : Event) (z : Sized t) (none : refusal t e ≡ 0) where
   slot-within : isWithin (t .tray .desks) (slotOf t (e .desk) .clock) ≡ true
   slot-within = past-within (t .tray .desks) (slotOf t (e .desk) .clock) (slot-past t e a)
 
-  -- what a desk's step leaves is its record again
-  put-back : (u : Record) → SameDesk (recordOf t (e .desk)) u → u .slot .kind ≤ 2 → askedRecord (putBack t u) (e .desk) ≡ u
-  put-back u same h = ap asking (put-same t (e .desk) u z (here t e a) same) ∙ asking-same u h
-
   -- 3 Take is the keeper's serve, and its answer is the message of the asker's slot
   module _ (k : e .kind ≡ 3) where
     asks : Asks t (e .desk)
@@ -174,7 +172,8 @@ module _ (t : Table) (e : Event) (z : Sized t) (none : refusal t e ≡ 0) where
         fits =
             both
             (both (both (both (eq-eqb (t .tray .desks) (t .tray .desks) refl) slot-within) (a .asked k))
-            (both (lt-ltb (e .desk) (t .tray .desks) (a .desk-is)) (ap not (ne-eqb (e .desk) (keeperFor t (e .desk)) (λ q. asks .another (sym q))))))
+            (both (lt-ltb (e .desk) (t .tray .desks) (a .desk-is))
+            (ap not (ne-eqb (e .desk) (keeperFor t (e .desk)) (λ q. asks .another (sym q))))))
             (asks .keeps-it)
 
     serves : keeperServes t (e .desk) ≡ askingStep (served t (e .desk))
@@ -220,12 +219,15 @@ module _ (t : Table) (e : Event) (z : Sized t) (none : refusal t e ≡ 0) where
     brings-it = rw bring-fits (bring-asking (recordOf t (e .desk)) (messageOf t (e .desk)))
 
     pub bring-does : Does (eventRule t e) (e .desk) (deskBrings t (e .desk))
-    unfolding bringRule outcome bringDone brings
+    unfolding bringRule outcome bringDone brings askedSlot
     bring-does =
         let v = recordOf t (e .desk) in
         let m = messageOf t (e .desk) in
         rw (is-bring t e none k, brings-it)
-        (record { same-reply = refl; same-record = put-back (bringDone v m .after) (bring-same v m) (lit≤ tt) })
+        (record {
+          same-reply = refl;
+          same-record = ap asking (put-same t (e .desk) (bringDone v m .after) z (here t e a) (bring-same v m));
+        })
 
   -- 1 Read, 2 Write, 5 Drop are the desk's
   module _ (o : isOwn e ≡ true) where
@@ -239,9 +241,25 @@ module _ (t : Table) (e : Event) (z : Sized t) (none : refusal t e ≡ 0) where
     unfolding rules.eventRule unless
     events = rw (own-record, own-passes t e a o)
 
+    own-after : recordOf (eventRule t e .after) (e .desk) ≡ eventDone (recordOf t (e .desk)) e .after
+    unfolding ownRule outcome
+    own-after =
+        let v = recordOf t (e .desk) in
+        rw (is-own t e none o) (put-same t (e .desk) (eventDone v e .after) z (here t e a) (event-same v e))
+
     pub own-does : Does (eventRule t e) (e .desk) (deskEvents t e)
     unfolding ownRule outcome
     own-does =
         let v = recordOf t (e .desk) in
         let kept = event-kept v (row-length t (e .desk) z (here t e a)) (own-sound t e a o) e (allowed v e (own-passes t e a o)) in
-        rw (is-own t e none o, events) (record { same-reply = refl; same-record = put-back (eventDone v e .after) (event-same v e) (kept .asked) })
+        record {
+          same-reply = rw (is-own t e none o, events);
+          same-record = rw events (ap asking own-after ∙ asking-same (eventDone v e .after) (kept .asked));
+        }
+
+    -- "code 1 comes with the request message": it is the slot's
+    pub own-asks : deskEvents t e .reply .code ≡ 1 → deskEvents t e .message ≡ messageOf (eventRule t e .after) (e .desk)
+    unfolding messageOf recordOf
+    own-asks one =
+        event-told (askedRecord t (e .desk)) e .asked one
+        ∙ ap (λ (w : Record). slotMessage w (w .slot)) (ap (λ (s : Step). s .after) events ∙ sym own-after)

@@ -87,7 +87,8 @@ module _ (t : Table) (e : Event) (a : Passed t e) where
   own-kept o =
       let v = recordOf t (e .desk) in
       put-kept t (e .desk) (eventDone v e .after) (a .sound) (a .desk-is) (event-same v e)
-      (event-kept v (row-length t (e .desk) (a .sound .sized) (here t e a)) (own-sound t e a o) e (allowed v e (own-passes t e a o)) .row-is)
+      (event-kept v (row-length t (e .desk) (a .sound .sized) (here t e a)) (own-sound t e a o) e
+      (allowed v e (own-passes t e a o)) .row-is)
 
   bring-kept : e .kind ≡ 4 → TableRule (bringRule t (e .desk) .after)
   unfolding bringRule outcome bringDone messageOf recordOf
@@ -101,7 +102,8 @@ module _ (t : Table) (e : Event) (a : Passed t e) where
   take-kept : e .kind ≡ 3 → TableRule (takeRule t (e .desk) .after)
   unfolding takeRule served messageOf recordOf putBack
   take-kept k =
-      slot-kept (putBack t (served t (e .desk) .after)) (e .desk) s keeper-kept (a .desk-is) slot-is (kind-waits s (omega (arith, names .answer-kind)))
+      slot-kept (putBack t (served t (e .desk) .after)) (e .desk) s keeper-kept (a .desk-is) slot-is
+      (kind-waits s (omega (arith, names .answer-kind)))
     where
       keeper : Record
       keeper = recordOf t (keeperFor t (e .desk))
@@ -128,13 +130,17 @@ module _ (t : Table) (e : Event) (a : Passed t e) where
 
       most : s .kind ≤ 4
       most =
-          ⊎-elim (λ q. omega (arith, names .answer-kind)) (λ q. omega (arith, names .answer-kind)) (asked-kind (slotOf t (e .desk)) (a .asked k))
+          ⊎-elim (λ q. omega (arith, names .answer-kind)) (λ q. omega (arith, names .answer-kind))
+          (asked-kind (slotOf t (e .desk)) (a .asked k))
 
       there : m .cell < length (keeper .row)
       there =
-          omega
-          (arith, asking .cell-is, a .sound .tray-is .cells-most,
-          row-length t (keeperFor t (e .desk)) (a .sound .sized) (desk-below t (a .sound) (keeperFor t (e .desk)) (asking .keeper-is)))
+          omega (
+            arith,
+            asking .cell-is,
+            a .sound .tray-is .cells-most,
+            row-length t (keeperFor t (e .desk)) (a .sound .sized) (desk-below t (a .sound) (keeperFor t (e .desk)) (asking .keeper-is)),
+          )
 
       slot-is : SlotRule (t .tray) (e .desk) s
       slot-is =

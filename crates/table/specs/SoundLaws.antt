@@ -114,7 +114,8 @@ table-rule t z e =
 pub rule-table : (t : Table) → TableRule t → tableSound t ≡ true
 unfolding tableSound deskSound
 rule-table t r =
-    both (rule-tray (t .tray) (r .tray-is)) (mapAt-every (λ p _. deskSound t p) (t .clocks) pastClock (λ p h. desk p (omega (arith, r .sized .all-clocks))))
+    both (rule-tray (t .tray) (r .tray-is))
+    (mapAt-every (λ p _. deskSound t p) (t .clocks) pastClock (λ p h. desk p (omega (arith, r .sized .all-clocks))))
   where
     desk : (p : ℕ) → p < 8 → deskSound t p ≡ true
     desk p i =

@@ -73,14 +73,15 @@ module _ (t : Table) (e : Event) (z : Sized t) where
         slot-other (putBack t u) (e .desk) (answerSlot (served t (e .desk) .message)) (keeper-sized a k) keeper (take-asks t e a k .another)
         ∙ put-same t keeper u z (keeper-below a k) serve-stays
 
-  each-take : (P : Outcome → Type 0) → e .kind ≡ 3 → P (refused (refusal t e) t) → (Passed t e → P (takeRule t (e .desk))) → P (eventRule t e)
+  each-take : (P : Outcome → Type 0) → e .kind ≡ 3 → P (refused (refusal t e) t) → (Passed t e → P (takeRule t (e .desk)))
+      → P (eventRule t e)
   each-take P k refuse take =
       each-event P t e z refuse (λ a _. take a) (λ a l. absurd (omega arith)) (λ a o. absurd (own-else e o .0 k))
 
   -- the asker: its slot alone
   pub take-asker : e .kind ≡ 3
       → recordOf (eventRule t e .after) (e .desk)
-        ≡ withSlot (recordOf t (e .desk)) (recordOf (eventRule t e .after) (e .desk) .slot) (recordOf t (e .desk) .served)
+      ≡ withSlot (recordOf t (e .desk)) (recordOf (eventRule t e .after) (e .desk) .slot) (recordOf t (e .desk) .served)
   take-asker k =
       each-take (λ (o : Outcome). recordOf (o .after) (e .desk) ≡ withSlot v (recordOf (o .after) (e .desk) .slot) (v .served)) k refl
       (λ a. slot-alone (recordOf (takeRule t (e .desk) .after) (e .desk)) (answerSlot (served t (e .desk) .message)) (asker-after a k))
