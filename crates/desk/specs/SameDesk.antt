@@ -50,7 +50,8 @@ module _ (v : Record) where
   unfolding eventDone
   event-same e =
       whichever Stays (eqb (e .kind) 1) (readRule v (e .cell)) _ (read-same (e .cell))
-      (whichever Stays (eqb (e .kind) 2) (writeRule v (e .cell) (e .word)) (dropRule v (e .cell)) (write-same (e .cell) (e .word)) (drop-same (e .cell)))
+      (whichever Stays (eqb (e .kind) 2) (writeRule v (e .cell) (e .word)) (dropRule v (e .cell))
+      (write-same (e .cell) (e .word)) (drop-same (e .cell)))
 
   pub serve-same : (m : Message) → SameDesk v (serveDone v m .after)
   unfolding serveDone readServed writeServed takes

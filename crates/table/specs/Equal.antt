@@ -33,8 +33,8 @@ use Rattle.table.specs.RuleLaws.{keeperFor, answered-kind, kind-waits, P
 use Rattle.table.specs.Rules.{isOwn, isAsked, isAnswered, refusal, outcome, messageOf, answerSlot, served, takeRule, bringRule, ownRule, eventRule}
 use Rattle.table.specs.Sound.{tableSound}
 use Rattle.table.specs.SoundLaws.{TableRule, table-rule}
-use Rattle.table.specs.Touch.{asker-after, keeper-after}
 use Rattle.table.specs.Table.{slotOf, recordOf}
+use Rattle.table.specs.Touch.{asker-after, keeper-after}
 
 -- ---- a desk's own record, where "a full slot stays asked until the answer is brought"
 unfoldable pub askedSlot : Slot → Slot

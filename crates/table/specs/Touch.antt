@@ -1,4 +1,4 @@
--- An event touches only the desks that its rule names, and a refused event none.
+-- An event touches only the desks that its rule names. (A refused one leaves the table as it is: `event-refused` of RuleLaws.)
 -- Assumes nothing.
 use mathlib.Core.Path.{_≡_, refl, sym, ap, _∙_}
 use mathlib.Core.Logic.{_⊎_, inl, inr}
