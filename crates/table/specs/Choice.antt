@@ -47,7 +47,8 @@ Meets E = (t : Table) (e : Event) → Sized t → E t e ≡ eventRule t e
 
 -- an engine that agrees with the rule on tables of some kind, which the rule keeps of that kind
 run-on : (Of : Table → Type 0) → ((t : Table) (e : Event) → Of t → Of (eventRule t e .after))
-    → (E : Engine) → ((t : Table) (e : Event) → Of t → E t e ≡ eventRule t e) → (t : Table) (es : List Event) → Of t → run E t es ≡ run eventRule t es
+    → (E : Engine) → ((t : Table) (e : Event) → Of t → E t e ≡ eventRule t e)
+    → (t : Table) (es : List Event) → Of t → run E t es ≡ run eventRule t es
 unfolding run
 run-on Of kept E meets t [] of = refl
 run-on Of kept E meets t (e ∷ es) of =
@@ -59,7 +60,8 @@ pub run-is : (E : Engine) → Meets E → (t : Table) (es : List Event) → Size
 run-is = run-on Sized event-sized
 
 -- the same of lists of any length in a table's place
-pub run-any : (E : Engine) → ((t : Table) (e : Event) → E t e ≡ eventRule t e) → (t : Table) (es : List Event) → run E t es ≡ run eventRule t es
+pub run-any : (E : Engine) → ((t : Table) (e : Event) → E t e ≡ eventRule t e)
+    → (t : Table) (es : List Event) → run E t es ≡ run eventRule t es
 run-any E meets t es = run-on (λ _. Unit {0}) (λ _ _ _. tt) E (λ t e _. meets t e) t es tt
 
 -- a run that starts from a sound table has sound tables only: soundness need be tested but once
