@@ -30,9 +30,12 @@ pub passed : (b : Bool) (n m : ℕ) → cond b (suc n) m ≡ 0 → (b ≡ false)
 passed true n m e = absurd (omega (arith, e))
 passed false n m e = (refl, e)
 
-pub either-is : (a b : Bool) → (a || b) ≡ true → (a ≡ true) ⊎ (b ≡ true)
+either-is : (a b : Bool) → (a || b) ≡ true → (a ≡ true) ⊎ (b ≡ true)
 either-is true b e = inl refl
 either-is false b e = inr e
+
+pub one-of : (k n m : ℕ) → (eqb k n || eqb k m) ≡ true → (k ≡ n) ⊎ (k ≡ m)
+one-of k n m e = ⊎-elim (λ p. inl (eqb-true k n p)) (λ p. inr (eqb-true k m p)) (either-is (eqb k n) (eqb k m) e)
 
 pub not-both : (a b : Bool) → (a && b) ≡ false → a ≡ true → b ≡ false
 not-both a b e p = rw p at e
@@ -58,7 +61,7 @@ allowed v e p =
     record {
       sound = not-false (isSound v) (sound .0);
       kind =
-          ⊎-elim (λ k. ⊎-elim (λ a. inl (eqb-true (e .kind) 1 a)) (λ b. inr (inl (eqb-true (e .kind) 2 b))) (either-is (eqb (e .kind) 1) (eqb (e .kind) 2) k))
+          ⊎-elim (λ k. ⊎-elim (λ a. inl a) (λ b. inr (inl b)) (one-of (e .kind) 1 2 k))
           (λ k. inr (inr (eqb-true (e .kind) 5 k)))
           (either-is (eqb (e .kind) 1 || eqb (e .kind) 2) (eqb (e .kind) 5) (not-false (eqb (e .kind) 1 || eqb (e .kind) 2 || eqb (e .kind) 5) (kind .0)));
       in-range = ltb-true (e .cell) (v .tray .cells) (not-false (ltb (e .cell) (v .tray .cells)) (range .0));
@@ -85,7 +88,7 @@ served v m p =
     record {
       sound = not-false (isSound v) (sound .0);
       clock = within-past (v .tray .desks) (m .clock) (search (both-left, both-right));
-      kind = ⊎-elim (λ a. inl (eqb-true (m .kind) 1 a)) (λ b. inr (eqb-true (m .kind) 2 b)) (either-is (eqb (m .kind) 1) (eqb (m .kind) 2) (search (both-left, both-right)));
+      kind = one-of (m .kind) 1 2 (search (both-left, both-right));
       desk = ltb-true (m .desk) (v .tray .desks) (search (both-left, both-right));
       other = eqb-false (m .desk) (v .desk) (not-true (eqb (m .desk) (v .desk)) (search (both-left, both-right)));
       kept = search (both-left, both-right);

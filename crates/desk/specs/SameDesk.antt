@@ -1,7 +1,8 @@
--- Whatever a desk does, its record stays the record of the same desk: the tray, the desk's number and the length of its row.
+-- Whatever a desk does, its record stays the record of the same desk: the tray, the desk's number and the length of its row. And an answer
+-- names its request.
 -- Assumes nothing.
 use mathlib.Core.Path.{_≡_, refl, _∙_}
-use Prim.Native.Nat.{ℕ}
+use Prim.Native.Nat.{ℕ, _+_}
 use lib.Dec.{eqb}
 use lib.ListN.{length, length-set}
 use Rattle.clock.specs.declared.Clock.{Clock}
@@ -19,39 +20,44 @@ pub record SameDesk (v u : Record) : Type 0 where
   pub same-number : u .desk ≡ v .desk
   pub same-length : length (u .row) ≡ length (v .row)
 
-unchanged : (v : Record) → SameDesk v v
-unchanged v = record { same-tray = refl; same-number = refl; same-length = refl }
-
 left-length : (v : Record) (x : Clock) → length (learns v x .row) ≡ length (v .row)
 unfolding leftOf
 left-length v x = length-mapAt (leftAt (v .tray) (v .desk) x) (v .row)
 
 module _ (v : Record) where
-  read-same : (c : ℕ) → SameDesk v (readRule v c .after)
-  unfolding readRule
-  read-same c = whichever (λ (s : Step). SameDesk v (s .after)) (cellAt (v .row) c .held) _ _ (unchanged v) (record { same-tray = refl; same-number = refl; same-length = refl })
+  abbrev Stays : Step → Type 0
+  Stays s = SameDesk v (s .after)
 
-  write-same : (c w : ℕ) → SameDesk v (writeRule v c w .after)
+  read-same : (c : ℕ) → Stays (readRule v c)
+  unfolding readRule
+  read-same c =
+      whichever Stays (cellAt (v .row) c .held) _ _
+      (record { same-tray = refl; same-number = refl; same-length = refl })
+      (record { same-tray = refl; same-number = refl; same-length = refl })
+
+  write-same : (c w : ℕ) → Stays (writeRule v c w)
   unfolding writeRule
   write-same c w =
-      whichever (λ (s : Step). SameDesk v (s .after)) (keeps (v .tray) (v .desk) c) _ _
+      whichever Stays (keeps (v .tray) (v .desk) c) _ _
       (record { same-tray = refl; same-number = refl; same-length = length-set (v .row) c _ })
       (record { same-tray = refl; same-number = refl; same-length = refl })
 
-  drop-same : (c : ℕ) → SameDesk v (dropRule v c .after)
+  drop-same : (c : ℕ) → Stays (dropRule v c)
   unfolding dropRule
   drop-same c = record { same-tray = refl; same-number = refl; same-length = length-set (v .row) c noCell }
 
   pub event-same : (e : Event) → SameDesk v (eventDone v e .after)
   unfolding eventDone
   event-same e =
-      whichever (λ (s : Step). SameDesk v (s .after)) (eqb (e .kind) 1) (readRule v (e .cell)) _ (read-same (e .cell))
-      (whichever (λ (s : Step). SameDesk v (s .after)) (eqb (e .kind) 2) (writeRule v (e .cell) (e .word)) (dropRule v (e .cell)) (write-same (e .cell) (e .word)) (drop-same (e .cell)))
+      whichever Stays (eqb (e .kind) 1) (readRule v (e .cell)) _ (read-same (e .cell))
+      (whichever Stays (eqb (e .kind) 2) (writeRule v (e .cell) (e .word)) (dropRule v (e .cell))
+      (write-same (e .cell) (e .word)) (drop-same (e .cell)))
 
   pub serve-same : (m : Message) → SameDesk v (serveDone v m .after)
   unfolding serveDone readServed writeServed takes
   serve-same m =
-      whichever (λ (s : Step). SameDesk v (s .after)) (eqb (m .kind) 1) (readServed v m) (writeServed v m) (unchanged v)
+      whichever Stays (eqb (m .kind) 1) (readServed v m) (writeServed v m)
+      (record { same-tray = refl; same-number = refl; same-length = refl })
       (record {
         same-tray = refl;
         same-number = refl;
@@ -69,3 +75,18 @@ module _ (v : Record) where
             ∙ left-length (holds v (m .cell) noCell) (m .clock)
             ∙ length-set (v .row) (m .cell) noCell;
       }
+
+-- ---- an answer
+pub record Answers (v : Record) (m : Message) (s : Step) : Type 0 where
+  pub answer-kind : s .message .kind ≡ m .kind + 2
+  pub answer-desks : s .message .desks ≡ m .desks
+  pub answer-desk : s .message .desk ≡ m .desk
+  pub answer-cell : s .message .cell ≡ m .cell
+  pub slot-stays : s .after .slot ≡ v .slot
+
+pub serve-answers : (v : Record) (m : Message) → Answers v m (serveDone v m)
+unfolding serveDone readServed writeServed takes
+serve-answers v m =
+    whichever (Answers v m) (eqb (m .kind) 1) (readServed v m) (writeServed v m)
+    (record { answer-kind = refl; answer-desks = refl; answer-desk = refl; answer-cell = refl; slot-stays = refl })
+    (record { answer-kind = refl; answer-desks = refl; answer-desk = refl; answer-cell = refl; slot-stays = refl })

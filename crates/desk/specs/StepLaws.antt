@@ -11,7 +11,7 @@ use Rattle.clock.specs.declared.Clock.{Clock}
 use Rattle.clock.specs.Clock.{number, raised}
 use Rattle.lists.specs.Each.{mapAt, mapAt-same, getD-mapAt}
 use Rattle.lists.specs.Sum.{sum}
-use Rattle.lists.specs.Test.{both-left}
+use Rattle.lists.specs.Test.{both-left, whichever}
 use Rattle.desk.specs.declared.Cell.{Cell}
 use Rattle.desk.specs.declared.Event.{Event}
 use Rattle.desk.specs.declared.Message.{Message}
@@ -80,11 +80,6 @@ neither : (b : Bool) (n m : ℕ) → (n ≡ 1 → ⊥) → (m ≡ 1 → ⊥) →
 neither true n m p q = p
 neither false n m p q = q
 
--- a number that is no code 1, whichever way the test goes
-either-told : (b : Bool) (s t : Step) → Told s → Told t → Told (cond b s t)
-either-told true s t p q = p
-either-told false s t p q = q
-
 unless-told : (n : ℕ) (v : Record) (s : Step) → (n ≡ 1 → ⊥) → Told s → Told (unless n v s)
 unfolding unless
 unless-told zero v s ne p = p
@@ -95,7 +90,7 @@ unfolding readRule
 read-told v c =
     let x = cellAt (v .row) c in
     let blank = isBlank (x .word) (x .stamp) in
-    either-told (x .held) (replied (shownCode blank) (x .word) 0 noMessage v) (asks v (readAsked c))
+    whichever Told (x .held) (replied (shownCode blank) (x .word) 0 noMessage v) (asks v (readAsked c))
     (quiet-told (shownCode blank) (x .word) 0 v (neither blank 2 0 (omega arith) (omega arith)))
     (asks-told v (readAsked c))
 
@@ -103,7 +98,7 @@ write-told : (v : Record) (c w : ℕ) → Told (writeRule v c w)
 unfolding writeRule
 write-told v c w =
     let next = raised (v .clock) (v .desk) in
-    either-told (keeps (v .tray) (v .desk) c) (replied 0 w 0 noMessage (stores (withClock v next) c w)) (asks v (writeAsked c w next))
+    whichever Told (keeps (v .tray) (v .desk) c) (replied 0 w 0 noMessage (stores (withClock v next) c w)) (asks v (writeAsked c w next))
     (quiet-told 0 w 0 (stores (withClock v next) c w) (omega arith))
     (asks-told v (writeAsked c w next))
 
@@ -125,9 +120,9 @@ pub event-told : (v : Record) (e : Event) → Told (eventRule v e)
 unfolding eventRule eventRefusal eventDone
 event-told v e =
     unless-told (eventRefusal v e) v (eventDone v e) no-code
-    (either-told (eqb (e .kind) 1) (readRule v (e .cell)) (cond (eqb (e .kind) 2) (writeRule v (e .cell) (e .word)) (dropRule v (e .cell)))
+    (whichever Told (eqb (e .kind) 1) (readRule v (e .cell)) (cond (eqb (e .kind) 2) (writeRule v (e .cell) (e .word)) (dropRule v (e .cell)))
     (read-told v (e .cell))
-    (either-told (eqb (e .kind) 2) (writeRule v (e .cell) (e .word)) (dropRule v (e .cell)) (write-told v (e .cell) (e .word)) (drop-told v (e .cell))))
+    (whichever Told (eqb (e .kind) 2) (writeRule v (e .cell) (e .word)) (dropRule v (e .cell)) (write-told v (e .cell) (e .word)) (drop-told v (e .cell))))
   where
     no-code : eventRefusal v e ≡ 1 → ⊥
     no-code =

@@ -10,15 +10,14 @@ use Rattle.lists.specs.Each.{mapAt}
 use Rattle.lists.specs.Test.{every, some}
 use Rattle.clock.specs.declared.Clock.{Clock}
 use Rattle.clock.specs.Clock.{number, paired, merged, isBefore, isWithin, raised}
-use Rattle.desk.specs.declared.Event.{Event}
 use Rattle.desk.specs.declared.Reply.{Reply}
 use Rattle.desk.specs.Desk.{isBlank, keeps, waits}
 use Rattle.desk.specs.Rules.{withClock, eventDone, readRule, writeRule}
 use Rattle.desk.specs.Sound.{traySound, rowSound, keeperSound, cellsSound, cellSound, slotSound, slotNames, slotCarries}
 use Rattle.table.specs.declared.Table.{Table}
-use Rattle.table.specs.Choice.{run, replies}
+use Rattle.table.specs.Choice.{small, event, run, replies}
 use Rattle.table.specs.Rules.{isOwn, isAsked, isAnswered, refusal, outcome, ownRule, done, unless, eventRule}
-use Rattle.table.specs.SetUp.{freshTray, freshTable, setUpRefusal, answerSetUp, setUpRule}
+use Rattle.table.specs.SetUp.{keepersRight, freshTray, freshTable, setUpRefusal, answerSetUp, setUpRule}
 use Rattle.table.specs.Sound.{cellZero, slotZero, rowZero, deskSound, tableSound}
 use Rattle.table.specs.Table.{recordOf, putBack}
 
@@ -26,16 +25,9 @@ use Rattle.table.specs.Table.{recordOf, putBack}
 abbrev clock : List ℕ → Clock
 clock ns = record { n = take 8 (ns ++ replicate 8 0) }
 
--- one desk, one cell, as set up; and the same with the desk's own clock number n
-abbrev single : Table
-single = setUpRule 1 1 (replicate 32 0) .table
-
-abbrev singleAt : ℕ → Table
-singleAt n = putBack single (withClock (recordOf single 0) (clock (n ∷ [])))
-
--- an event of desk 0 and cell 0
-abbrev event : ℕ → ℕ → Event
-event kind word = record { kind = kind; desk = 0; cell = 0; word = word }
+-- the small table with its desk's own clock number n
+abbrev smallAt : ℕ → Table
+smallAt n = putBack small (withClock (recordOf small 0) (clock (n ∷ [])))
 
 abbrev reply : ℕ → ℕ → Reply
 reply code value = record { code = code; value = value; count = 0 }
@@ -51,15 +43,16 @@ edges =
     -- P4 (1,0) and (0,1): neither is before the other
     ∷ ((isBefore (clock (1 ∷ 0 ∷ [])) (clock (0 ∷ 1 ∷ [])) ≡ false) × (isBefore (clock (0 ∷ 1 ∷ [])) (clock (1 ∷ 0 ∷ [])) ≡ false))
     -- P5 one desk, one cell: read of a fresh table gives 2
-    ∷ (eventRule single (event 1 0) .reply ≡ reply 2 0)
+    ∷ (eventRule small (event 1 0) .reply ≡ reply 2 0)
     -- P6 the same desk writes 7 and reads: 0, 7
-    ∷ (replies (run eventRule single (event 2 7 ∷ event 1 0 ∷ [])) ≡ reply 0 7 ∷ reply 0 7 ∷ [])
+    ∷ (replies (run eventRule small (event 2 7 ∷ event 1 0 ∷ [])) ≡ reply 0 7 ∷ reply 0 7 ∷ [])
     -- P7 take on an empty slot: 13
-    ∷ (eventRule single (event 3 0) .reply ≡ reply 13 0)
+    ∷ (eventRule small (event 3 0) .reply ≡ reply 13 0)
     -- P8 own clock number 4,294,967,294: a keeper's write is done
-    ∷ ((eventRule (singleAt 4294967294) (event 2 7) .reply ≡ reply 0 7) × (number (recordOf (eventRule (singleAt 4294967294) (event 2 7) .after) 0 .clock) 0 ≡ 4294967295))
+    ∷ ((eventRule (smallAt 4294967294) (event 2 7) .reply ≡ reply 0 7)
+    × (number (recordOf (eventRule (smallAt 4294967294) (event 2 7) .after) 0 .clock) 0 ≡ 4294967295))
     -- P9 4,294,967,295: 16
-    ∷ (eventRule (singleAt 4294967295) (event 2 7) .reply ≡ reply 16 0)
+    ∷ (eventRule (smallAt 4294967295) (event 2 7) .reply ≡ reply 16 0)
     ∷ []
 
 -- every statement of a list holds
@@ -69,7 +62,7 @@ Hold (p ∷ ps) = p × Hold ps
 
 pub edges-hold : Hold edges
 unfolding edges Hold merged isBefore paired every some mapAt isWithin raised
-    setUpRule answerSetUp setUpRefusal freshTable freshTray run replies
+    setUpRule answerSetUp setUpRefusal keepersRight freshTable freshTray run replies
     eventRule unless refusal isOwn isAsked isAnswered done ownRule outcome eventDone readRule writeRule isBlank keeps waits recordOf putBack
     tableSound deskSound rowSound rowZero traySound keeperSound cellsSound cellSound slotSound slotNames slotCarries cellZero slotZero
 edges-hold = (refl, (refl, (refl, ((refl, refl), (refl, (refl, (refl, ((refl, refl), (refl, tt)))))))))

@@ -3,7 +3,7 @@
 use mathlib.Core.Path.{_≡_, refl, _∙_}
 use mathlib.Core.Bool.{Bool, true, false, not, _&&_, _||_, cond}
 use mathlib.Core.List.{List}
-use Prim.Native.Nat.{ℕ, _+_, _*_, _/_, _%_, _≤_, _<_}
+use Prim.Native.Nat.{ℕ, zero, suc, _+_, _*_, _/_, _%_, _≤_, _<_}
 use native.Mathlib.Omega.{arith}
 use borrow.Author.Tests.{leb-true, eqb-true, not-false}
 use lib.Dec.{ltb, leb, eqb}
@@ -21,27 +21,27 @@ use Rattle.desk.specs.SoundLaws.{TrayRule, CellRule, RowRule, keeps-in, no-way}
 use Rattle.lists.specs.Each.{mapAt, length-mapAt, getD-mapAt}
 use Rattle.lists.specs.Part.{getD-slice}
 use Rattle.lists.specs.Test.{every, fails, both-left, both-right, every-mapAt}
+use Rattle.table.specs.declared.Table.{Table}
 use Rattle.table.specs.Rows.{Sized, row-length}
-use Rattle.table.specs.RuleLaws.{keeper-desk}
-use Rattle.table.specs.SetUp.{keeperRight, keepersRight, storedKeeper, freshTray, freshCell, freshTable, setUpRefusal}
+use Rattle.table.specs.SetUp.{keeperRight, keepersRight, storedKeeper, freshTray, freshCell, freshTable, noTable, setUpRefusal, answerSetUp, setUpRule}
 use Rattle.table.specs.SetUpLaws.{settled}
 use Rattle.table.specs.Sound.{tableSound}
-use Rattle.table.specs.SoundLaws.{RowNone, TableRule, rule-table}
+use Rattle.table.specs.SoundLaws.{RowNone, TableRule, rule-table, keeper-desk}
 use Rattle.table.specs.Table.{pastClock, pastSlot, recordOf}
+
+tray-sized : (t : Tray) → length (t .keepers) ≡ 32 → Sized (freshTable t)
+unfolding freshTable
+tray-sized t long =
+    record {
+      all-keepers = long;
+      all-clocks = refl;
+      all-slots = refl;
+      all-served = refl;
+      all-cells = length-mapAt (λ i _. freshCell t i) (replicate 256 noCell) ∙ length-replicate 256 noCell;
+    }
 
 -- ---- on any tray that is sound
 module _ (t : Tray) (r : TrayRule t) (long : length (t .keepers) ≡ 32) where
-  tray-sized : Sized (freshTable t)
-  unfolding freshTable
-  tray-sized =
-      record {
-        all-keepers = long;
-        all-clocks = refl;
-        all-slots = refl;
-        all-served = refl;
-        all-cells = length-mapAt (λ i _. freshCell t i) (replicate 256 noCell) ∙ length-replicate 256 noCell;
-      }
-
   -- "each cell held by its keeper alone, with word 0 and zero stamp"
   abbrev keptAlone : ℕ → ℕ → Cell
   keptAlone p c = record { held = keeps t p c; word = 0; stamp = zeroClock }
@@ -64,7 +64,7 @@ module _ (t : Tray) (r : TrayRule t) (long : length (t .keepers) ≡ 32) where
   fresh-record p h = rw (getD-replicate 8 p zeroClock pastClock h, getD-replicate 8 p noSlot pastSlot h, getD-replicate 8 p false false h)
 
   place : (p c : ℕ) → p < 8 → c < length (recordOf (freshTable t) p .row) → c < 32
-  place p c h i = omega (arith, row-length (freshTable t) p tray-sized h)
+  place p c h i = omega (arith, row-length (freshTable t) p (tray-sized t long) h)
 
   -- who keeps a cell is a desk
   not-kept : (p c : ℕ) → t .desks ≤ p → keeps t p c ≡ false
@@ -79,6 +79,7 @@ module _ (t : Tray) (r : TrayRule t) (long : length (t .keepers) ≡ 32) where
   unfolding freshTable
   tray-fresh =
       record {
+        sized = tray-sized t long;
         tray-is = r;
         row-is = λ p h. let i : p < 8 = omega (arith, r .desks-most) in rw (fresh-record p i) (present p h i);
         row-none = λ p h i. rw (fresh-record p i) (absent p h i);
@@ -108,20 +109,21 @@ module _ (t : Tray) (r : TrayRule t) (long : length (t .keepers) ≡ 32) where
       absent p h i =
           record {
             clock-none = zero-past 0;
-            cell-none = λ c j. rw (fresh-cell p c i (place p c i j)) (record { not-held = not-kept p c h; no-word = refl; no-stamp = zero-past 0 });
+            cell-none =
+                λ c j. rw (fresh-cell p c i (place p c i j)) (record { not-held = not-kept p c h; no-word = refl; no-stamp = zero-past 0 });
             slot-none = record { no-kind = refl; no-cell = refl; no-word = refl; no-clock = zero-past 0 };
             not-served = refl;
           }
 
 -- ---- on the tray of any set-up that is not refused
-module _ (desks cells : ℕ) (keepers : List ℕ) (long : length keepers ≡ 32) (none : setUpRefusal desks cells keepers ≡ 0) where
+module _ (desks cells : ℕ) (keepers : List ℕ) (long : length keepers ≡ 32) where
   stored : length (freshTray desks cells keepers .keepers) ≡ 32
   unfolding freshTray
   stored = length-mapAt (storedKeeper cells) keepers ∙ long
 
-  fresh-tray : TrayRule (freshTray desks cells keepers)
+  fresh-tray : setUpRefusal desks cells keepers ≡ 0 → TrayRule (freshTray desks cells keepers)
   unfolding freshTray keeperSound keepersRight
-  fresh-tray =
+  fresh-tray none =
       let s = settled desks cells keepers none in
       record {
         some-desk = s .some-desk;
@@ -139,7 +141,29 @@ module _ (desks cells : ℕ) (keepers : List ℕ) (long : length keepers ≡ 32)
       keeper false k e = refl
 
   pub fresh-sized : Sized (freshTable (freshTray desks cells keepers))
-  fresh-sized = tray-sized (freshTray desks cells keepers) fresh-tray stored
+  fresh-sized = tray-sized (freshTray desks cells keepers) stored
 
-  pub fresh-sound : tableSound (freshTable (freshTray desks cells keepers)) ≡ true
-  fresh-sound = rule-table (freshTable (freshTray desks cells keepers)) fresh-sized (tray-fresh (freshTray desks cells keepers) fresh-tray stored)
+  pub fresh-sound : setUpRefusal desks cells keepers ≡ 0 → tableSound (freshTable (freshTray desks cells keepers)) ≡ true
+  fresh-sound none =
+      rule-table (freshTable (freshTray desks cells keepers)) (tray-fresh (freshTray desks cells keepers) (fresh-tray none) stored)
+
+  -- what set-up gives: lengths always, and soundness with code 0
+  pub set-up-sized : Sized (setUpRule desks cells keepers .table)
+  unfolding setUpRule answerSetUp noTable
+  set-up-sized = go (setUpRefusal desks cells keepers)
+    where
+      go : (n : ℕ) → Sized (answerSetUp n (freshTable (freshTray desks cells keepers)) .table)
+      go zero = fresh-sized
+      go (suc n) =
+          record { all-keepers = refl; all-clocks = refl; all-slots = refl; all-served = refl; all-cells = length-replicate 256 noCell }
+
+  pub set-up-sound : setUpRule desks cells keepers .code ≡ 0 → tableSound (setUpRule desks cells keepers .table) ≡ true
+  unfolding setUpRule answerSetUp
+  set-up-sound = go (setUpRefusal desks cells keepers) refl
+    where
+      fresh : Table
+      fresh = freshTable (freshTray desks cells keepers)
+
+      go : (n : ℕ) → setUpRefusal desks cells keepers ≡ n → answerSetUp n fresh .code ≡ 0 → tableSound (answerSetUp n fresh .table) ≡ true
+      go zero none _ = fresh-sound none
+      go (suc n) _ ok = absurd (omega arith)

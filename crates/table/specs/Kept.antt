@@ -1,9 +1,9 @@
 -- Every event keeps a sound table sound.
 -- Assumes nothing.
-use mathlib.Core.Path.{_≡_, refl}
-use mathlib.Core.Bool.{true, not}
+use mathlib.Core.Path.{_≡_}
+use mathlib.Core.Bool.{true}
 use mathlib.Core.Logic.{_⊎_, ⊎-elim}
-use Prim.Native.Nat.{ℕ, _+_, _≤_, _<_}
+use Prim.Native.Nat.{ℕ, _≤_, _<_}
 use native.Mathlib.Decide.{ℕ-discrete}
 use native.Mathlib.Omega.{arith}
 use lib.Dec.{eqb}
@@ -18,117 +18,92 @@ use Rattle.desk.specs.Desk.{waits}
 use Rattle.desk.specs.Kept.{event-kept, takes-row, brings-row, slot-row, full-rule}
 use Rattle.desk.specs.RuleLaws.{allowed}
 use Rattle.desk.specs.Rules.{eventDone, takes, readServed, writeServed, serveDone, bringDone}
-use Rattle.desk.specs.SameDesk.{SameDesk, event-same, serve-same, bring-same}
-use Rattle.desk.specs.SoundLaws.{SlotRule, RowRule, sound-rule}
+use Rattle.desk.specs.SameDesk.{SameDesk, Answers, serve-answers, event-same, serve-same, bring-same}
+use Rattle.desk.specs.SoundLaws.{SlotRule, RowRule}
 use Rattle.lists.specs.Test.{whichever}
 use Rattle.table.specs.declared.Outcome.{Outcome}
 use Rattle.table.specs.declared.Table.{Table}
 use Rattle.table.specs.Rows.{Sized, row-length, put-sized, put-same, put-other, slot-sized, slot-same, slot-other}
-use Rattle.table.specs.RuleLaws.{kind-waits, asked-kind, asked-waits, answered-waits, keeperFor, Passed, each-event, Asks, desk-below, asks, own-passes}
+use Rattle.table.specs.RuleLaws.{keeperFor, asked-kind, kind-waits, Passed, each-event, Asks, here, take-asks, bring-asks, slot-past, own-sound, own-passes}
 use Rattle.table.specs.Rules.{isOwn, outcome, messageOf, answerSlot, served, takeRule, bringRule, ownRule, eventRule}
 use Rattle.table.specs.Sound.{tableSound}
-use Rattle.table.specs.SoundLaws.{TableRule, table-rule, rule-table}
+use Rattle.table.specs.SoundLaws.{TableRule, table-rule, rule-table, desk-below}
 use Rattle.table.specs.Table.{slotOf, recordOf, putBack, withSlotOf}
 
--- ---- a table that is sound and has its lengths
-pub record Good (t : Table) : Type 0 where
-  pub sized : Sized t
-  pub rule : TableRule t
-
 -- what a desk's step leaves goes back into its place
-put-good : (t : Table) (desk : ℕ) (u : Record) → Good t → desk < t .tray .desks → SameDesk (recordOf t desk) u → RowRule u → Good (putBack t u)
+put-kept : (t : Table) (desk : ℕ) (u : Record) → TableRule t → desk < t .tray .desks → SameDesk (recordOf t desk) u → RowRule u
+    → TableRule (putBack t u)
 unfolding putBack
-put-good t desk u g here same r =
+put-kept t desk u r h same row =
     record {
-      sized = put-sized t desk u (g .sized) below same;
-      rule =
-          record {
-            tray-is = g .rule .tray-is;
-            row-is =
-                λ p h.
-                elim (ℕ-discrete p desk) [
-                  | yes q ↦ rw (q, put-same t desk u (g .sized) below same) r
-                  | no q ↦ rw (put-other t desk u (g .sized) below same p (desk-below t (g .rule) p h) q) (g .rule .row-is p h)
-                ];
-            row-none = λ p h i. rw (put-other t desk u (g .sized) below same p i (λ q. omega arith)) (g .rule .row-none p h i);
-          };
+      sized = put-sized t desk u (r .sized) below same;
+      tray-is = r .tray-is;
+      row-is =
+          λ p i.
+          elim (ℕ-discrete p desk) [
+            | yes q ↦ rw (q, put-same t desk u (r .sized) below same) row
+            | no q ↦ rw (put-other t desk u (r .sized) below same p (desk-below t r p i) q) (r .row-is p i)
+          ];
+      row-none = λ p i j. rw (put-other t desk u (r .sized) below same p j (λ q. omega arith)) (r .row-none p i j);
     }
   where
     below : desk < 8
-    below = desk-below t (g .rule) desk here
+    below = desk-below t r desk h
 
 -- a desk's slot is filled
-slot-good : (t : Table) (desk : ℕ) (s : Slot) → Good t → desk < t .tray .desks → SlotRule (t .tray) desk s → waits s ≡ true → Good (withSlotOf t desk s)
+slot-kept : (t : Table) (desk : ℕ) (s : Slot) → TableRule t → desk < t .tray .desks → SlotRule (t .tray) desk s → waits s ≡ true
+    → TableRule (withSlotOf t desk s)
 unfolding withSlotOf recordOf
-slot-good t desk s g here r w =
+slot-kept t desk s r h new w =
     record {
-      sized = slot-sized t desk s (g .sized);
-      rule =
-          record {
-            tray-is = g .rule .tray-is;
-            row-is =
-                λ p h.
-                elim (ℕ-discrete p desk) [
-                  | yes q ↦ rw (q, slot-same t desk s (g .sized) (desk-below t (g .rule) desk here))
-                      (slot-row (recordOf t desk) s (recordOf t desk .served) (g .rule .row-is desk here) r (λ _. w))
-                  | no q ↦ rw (slot-other t desk s (g .sized) p q) (g .rule .row-is p h)
-                ];
-            row-none = λ p h i. rw (slot-other t desk s (g .sized) p (λ q. omega arith)) (g .rule .row-none p h i);
-          };
+      sized = slot-sized t desk s (r .sized);
+      tray-is = r .tray-is;
+      row-is =
+          λ p i.
+          elim (ℕ-discrete p desk) [
+            | yes q ↦ rw (q, slot-same t desk s (r .sized) (desk-below t r desk h))
+                (slot-row (recordOf t desk) s (recordOf t desk .served) (r .row-is desk h) new (λ _. w))
+            | no q ↦ rw (slot-other t desk s (r .sized) p q) (r .row-is p i)
+          ];
+      row-none = λ p i j. rw (slot-other t desk s (r .sized) p (λ q. omega arith)) (r .row-none p i j);
     }
 
--- ---- a keeper that serves: its row, and the answer that it gives
-module _ (v : Record) (m : Message) where
-  serve-row : RowRule v → m .cell < v .tray .cells → ZeroPast (v .tray .desks) (m .clock) → RowRule (serveDone v m .after)
+-- a keeper that serves: its row, and the stamp that it answers with
+module _ (v : Record) (m : Message) (r : RowRule v) (c : m .cell < v .tray .cells) (p : ZeroPast (v .tray .desks) (m .clock)) where
+  serve-row : RowRule (serveDone v m .after)
   unfolding serveDone readServed writeServed
-  serve-row r c p =
-      whichever (λ (s : Step). RowRule (s .after)) (eqb (m .kind) 1) (readServed v m) (writeServed v m) r (takes-row v m r c p)
+  serve-row = whichever (λ (s : Step). RowRule (s .after)) (eqb (m .kind) 1) (readServed v m) (writeServed v m) r (takes-row v m r c p)
 
-  serve-clock : RowRule v → m .cell < v .tray .cells → m .cell < length (v .row) → ZeroPast (v .tray .desks) (m .clock)
-      → ZeroPast (v .tray .desks) (serveDone v m .message .clock)
+  serve-past : m .cell < length (v .row) → ZeroPast (v .tray .desks) (serveDone v m .message .clock)
   unfolding serveDone readServed writeServed takes
-  serve-clock r c h p =
+  serve-past h =
       whichever (λ (s : Step). ZeroPast (v .tray .desks) (s .message .clock)) (eqb (m .kind) 1) (readServed v m) (writeServed v m)
       (r .cell-is (m .cell) h .stamp-past) (takes-row v m r c p .clock-past)
 
-  pub serve-names : (serveDone v m .message .kind ≡ m .kind + 2) × (serveDone v m .message .cell ≡ m .cell)
-  unfolding serveDone readServed writeServed
-  serve-names =
-      whichever (λ (s : Step). (s .message .kind ≡ m .kind + 2) × (s .message .cell ≡ m .cell)) (eqb (m .kind) 1) (readServed v m) (writeServed v m)
-      (refl, refl) (refl, refl)
-
 -- ---- the three ways to do an event
-module _ (t : Table) (g : Good t) (e : Event) (a : Passed t e) where
-  row : (p : ℕ) → p < t .tray .desks → length (recordOf t p .row) ≡ 32
-  row p h = row-length t p (g .sized) (desk-below t (g .rule) p h)
-
-  own-good : isOwn e ≡ true → Good (ownRule t e .after)
+module _ (t : Table) (e : Event) (a : Passed t e) where
+  own-kept : isOwn e ≡ true → TableRule (ownRule t e .after)
   unfolding ownRule outcome
-  own-good o =
+  own-kept o =
       let v = recordOf t (e .desk) in
-      let passes = allowed v e (own-passes t (g .sized) (g .rule) e a o) in
-      put-good t (e .desk) (eventDone v e .after) g (a .desk-is) (event-same v e)
-      (event-kept v (row (e .desk) (a .desk-is)) (sound-rule v (passes .sound)) e passes .row-is)
+      put-kept t (e .desk) (eventDone v e .after) (a .sound) (a .desk-is) (event-same v e)
+      (event-kept v (row-length t (e .desk) (a .sound .sized) (here t e a)) (own-sound t e a o) e
+      (allowed v e (own-passes t e a o)) .row-is)
 
-  waiting : waits (slotOf t (e .desk)) ≡ true → Asks t (e .desk)
-  waiting = asks t (g .sized) (g .rule) (e .desk) (a .desk-is)
-
-  slot-past : ZeroPast (t .tray .desks) (slotOf t (e .desk) .clock)
-  unfolding recordOf
-  slot-past = g .rule .row-is (e .desk) (a .desk-is) .slot-is .clock-past
-
-  bring-good : e .kind ≡ 4 → Good (bringRule t (e .desk) .after)
+  bring-kept : e .kind ≡ 4 → TableRule (bringRule t (e .desk) .after)
   unfolding bringRule outcome bringDone messageOf recordOf
-  bring-good k =
+  bring-kept k =
       let v = recordOf t (e .desk) in
       let m = messageOf t (e .desk) in
-      let asking = waiting (answered-waits (slotOf t (e .desk)) (a .answered k)) in
-      put-good t (e .desk) (bringDone v m .after) g (a .desk-is) (bring-same v m)
-      (brings-row v m (g .rule .row-is (e .desk) (a .desk-is)) (asking .cell-is) (asking .not-kept) slot-past)
+      let asking = bring-asks t e a k in
+      put-kept t (e .desk) (bringDone v m .after) (a .sound) (a .desk-is) (bring-same v m)
+      (brings-row v m (a .sound .row-is (e .desk) (a .desk-is)) (asking .cell-is) (asking .not-kept) (slot-past t e a))
 
-  take-good : e .kind ≡ 3 → Good (takeRule t (e .desk) .after)
+  take-kept : e .kind ≡ 3 → TableRule (takeRule t (e .desk) .after)
   unfolding takeRule served messageOf recordOf putBack
-  take-good k = slot-good (putBack t (served t (e .desk) .after)) (e .desk) s kept (a .desk-is) slot-is (kind-waits s (omega (arith, names .0)))
+  take-kept k =
+      slot-kept (putBack t (served t (e .desk) .after)) (e .desk) s keeper-kept (a .desk-is) slot-is
+      (kind-waits s (omega (arith, names .answer-kind)))
     where
       keeper : Record
       keeper = recordOf t (keeperFor t (e .desk))
@@ -137,46 +112,50 @@ module _ (t : Table) (g : Good t) (e : Event) (a : Passed t e) where
       m = messageOf t (e .desk)
 
       s : Slot
-      s = answerSlot (served t (e .desk) .message)
-
-      names : (s .kind ≡ slotOf t (e .desk) .kind + 2) × (s .cell ≡ slotOf t (e .desk) .cell)
-      names = serve-names keeper m
-
-      most : s .kind ≤ 4
-      most = ⊎-elim (λ q. omega (arith, names .0)) (λ q. omega (arith, names .0)) (asked-kind (slotOf t (e .desk)) (a .asked k))
+      s = answerSlot (serveDone keeper m .message)
 
       asking : Asks t (e .desk)
-      asking = waiting (asked-waits (slotOf t (e .desk)) (a .asked k))
+      asking = take-asks t e a k
 
-      there : slotOf t (e .desk) .cell < length (keeper .row)
-      there = omega (arith, asking .cell-is, g .rule .tray-is .cells-most, row (keeperFor t (e .desk)) (asking .keeper-is))
+      names : Answers keeper m (serveDone keeper m)
+      names = serve-answers keeper m
 
-      kept : Good (putBack t (served t (e .desk) .after))
-      kept =
-          put-good t (keeperFor t (e .desk)) (served t (e .desk) .after) g (asking .keeper-is) (serve-same keeper m)
-          (serve-row keeper m (g .rule .row-is (keeperFor t (e .desk)) (asking .keeper-is)) (asking .cell-is) slot-past)
+      row : RowRule keeper
+      row = a .sound .row-is (keeperFor t (e .desk)) (asking .keeper-is)
+
+      keeper-kept : TableRule (putBack t (serveDone keeper m .after))
+      keeper-kept =
+          put-kept t (keeperFor t (e .desk)) (serveDone keeper m .after) (a .sound) (asking .keeper-is) (serve-same keeper m)
+          (serve-row keeper m row (asking .cell-is) (slot-past t e a))
+
+      most : s .kind ≤ 4
+      most =
+          ⊎-elim (λ q. omega (arith, names .answer-kind)) (λ q. omega (arith, names .answer-kind))
+          (asked-kind (slotOf t (e .desk)) (a .asked k))
+
+      there : m .cell < length (keeper .row)
+      there =
+          omega (
+            arith,
+            asking .cell-is,
+            a .sound .tray-is .cells-most,
+            row-length t (keeperFor t (e .desk)) (a .sound .sized) (desk-below t (a .sound) (keeperFor t (e .desk)) (asking .keeper-is)),
+          )
 
       slot-is : SlotRule (t .tray) (e .desk) s
       slot-is =
-          full-rule (t .tray) (e .desk) s (omega (arith, names .0)) most (rw (names .1) (asking .cell-is)) (rw (names .1) (asking .not-kept))
-          (serve-clock keeper m (g .rule .row-is (keeperFor t (e .desk)) (asking .keeper-is)) (asking .cell-is) there slot-past)
+          full-rule (t .tray) (e .desk) s (omega (arith, names .answer-kind)) most
+          (rw (names .answer-cell) (asking .cell-is)) (rw (names .answer-cell) (asking .not-kept))
+          (serve-past keeper m row (asking .cell-is) (slot-past t e a) there)
 
 -- ---- the theorems
 module _ (t : Table) (e : Event) (z : Sized t) where
   pub event-sized : Sized (eventRule t e .after)
   event-sized =
-      each-event (λ (o : Outcome). Sized (o .after)) t e (λ _. z)
-      (λ a k. take-good t (good a) e a k .sized) (λ a k. bring-good t (good a) e a k .sized) (λ a k. own-good t (good a) e a k .sized)
-    where
-      -- an event that is not refused had a sound table
-      good : Passed t e → Good t
-      good a = record { sized = z; rule = table-rule t z (a .sound) }
+      each-event (λ (o : Outcome). Sized (o .after)) t e z z
+      (λ a k. take-kept t e a k .sized) (λ a k. bring-kept t e a k .sized) (λ a o. own-kept t e a o .sized)
 
   pub event-sound : tableSound t ≡ true → tableSound (eventRule t e .after) ≡ true
-  event-sound ok = rule-table (eventRule t e .after) event-sized (after .rule)
-    where
-      good : Good t
-      good = record { sized = z; rule = table-rule t z ok }
-
-      after : Good (eventRule t e .after)
-      after = each-event (λ (o : Outcome). Good (o .after)) t e (λ _. good) (take-good t good e) (bring-good t good e) (own-good t good e)
+  event-sound ok =
+      rule-table (eventRule t e .after)
+      (each-event (λ (o : Outcome). TableRule (o .after)) t e z (table-rule t z ok) (take-kept t e) (bring-kept t e) (own-kept t e))

@@ -14,11 +14,9 @@ use Rattle.desk.specs.SoundLaws.{TrayRule, tray-rule}
 use Rattle.lists.specs.Test.{both-left}
 use Rattle.table.specs.declared.Outcome.{Outcome}
 use Rattle.table.specs.declared.Table.{Table}
-use Rattle.table.specs.Rows.{Sized}
-use Rattle.table.specs.RuleLaws.{Passed, asked-kind, asked-waits, answered-waits, own-kind, asks, keeperFor}
+use Rattle.table.specs.RuleLaws.{Passed, asked-kind, own-kind, here, take-asks, bring-asks}
 use Rattle.table.specs.Rules.{refusedWith, unless}
 use Rattle.table.specs.Sound.{tableSound}
-use Rattle.table.specs.SoundLaws.{table-rule}
 use Rattle.table.specs.Table.{slotOf, keeperOf, recordOf}
 
 pub sound-tray : (t : Table) → tableSound t ≡ true → TrayRule (t .tray)
@@ -41,31 +39,27 @@ unfolding unless
 unless-refused zero t o some = absurd (some refl)
 unless-refused (suc n) t o some = refl
 
-module _ (t : Table) (z : Sized t) (e : Event) (a : Passed t e) where
+module _ (t : Table) (e : Event) (a : Passed t e) where
   pub take-there : e .kind ≡ 3
       → (e .desk < 8) × (slotOf t (e .desk) .cell < 32) × (slotOf t (e .desk) .kind < 3) × (keeperOf t (slotOf t (e .desk) .cell) < 8)
   take-there k =
-      let asked = a .asked k in
-      let tray = sound-tray t (a .sound) in
-      let to = asks t z (table-rule t z (a .sound)) (e .desk) (a .desk-is) (asked-waits (slotOf t (e .desk)) asked) in (
-        omega (arith, a .desk-is, tray .desks-most),
+      let tray = a .sound .tray-is in
+      let to = take-asks t e a k in (
+        here t e a,
         omega (arith, to .cell-is, tray .cells-most),
-        ⊎-elim (λ q. omega arith) (λ q. omega arith) (asked-kind (slotOf t (e .desk)) asked),
+        ⊎-elim (λ q. omega arith) (λ q. omega arith) (asked-kind (slotOf t (e .desk)) (a .asked k)),
         omega (arith, to .keeper-is, tray .desks-most),
       )
 
   pub bring-there : e .kind ≡ 4 → (e .desk < 8) × (slotOf t (e .desk) .cell < 32)
-  bring-there k =
-      let tray = sound-tray t (a .sound) in
-      let to = asks t z (table-rule t z (a .sound)) (e .desk) (a .desk-is) (answered-waits (slotOf t (e .desk)) (a .answered k)) in
-      (omega (arith, a .desk-is, tray .desks-most), omega (arith, to .cell-is, tray .cells-most))
+  bring-there k = (here t e a, omega (arith, bring-asks t e a k .cell-is, a .sound .tray-is .cells-most))
 
   pub own-there : (e .kind ≡ 3 → ⊥) → (e .kind ≡ 4 → ⊥)
       → (e .desk < 8) × (e .cell < 32) × (e .kind ≡ 2 → number (recordOf t (e .desk) .clock) (e .desk) ≡ 4294967295 → ⊥)
   own-there p q =
-      let tray = sound-tray t (a .sound) in
-      let own = own-kind t e a p q in (
-        omega (arith, a .desk-is, tray .desks-most),
-        omega (arith, a .in-range own, tray .cells-most),
-        λ k. eqb-false (number (recordOf t (e .desk) .clock) (e .desk)) 4294967295 (not-both (eqb (e .kind) 2) (eqb (number (recordOf t (e .desk) .clock) (e .desk)) 4294967295) (a .below) (eq-eqb (e .kind) 2 k)),
+      let own = own-kind e (a .kind .0) (a .kind .1) p q in
+      let last = number (recordOf t (e .desk) .clock) (e .desk) in (
+        here t e a,
+        omega (arith, a .in-range own, a .sound .tray-is .cells-most),
+        λ k. eqb-false last 4294967295 (not-both (eqb (e .kind) 2) (eqb last 4294967295) (a .below) (eq-eqb (e .kind) 2 k)),
       )

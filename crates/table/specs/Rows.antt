@@ -84,7 +84,8 @@ module _ (t : Table) (desk : ℕ) (u : Record) (z : Sized t) (h : desk < 8) (sam
 
       row : slice (p * 32) (p * 32 + 32) (paste (t .cells) (u .desk * 32) (u .row) 32) ≡ slice (p * 32) (p * 32 + 32) (t .cells)
       row =
-          slice-apart (t .cells) (u .desk * 32) (u .row) 32 (omega (arith, below)) (omega (arith, long)) (p * 32) (p * 32 + 32) pastEnd (omega arith) apart
+          slice-apart (t .cells) (u .desk * 32) (u .row) 32 (omega (arith, below)) (omega (arith, long))
+          (p * 32) (p * 32 + 32) pastEnd (omega arith) apart
 
 -- ---- a slot put in
 module _ (t : Table) (desk : ℕ) (s : Slot) (z : Sized t) where

@@ -2,29 +2,27 @@
 -- Assumes nothing.
 use mathlib.Core.Path.{_≡_, refl, ap}
 use mathlib.Core.Bool.{Bool, true, false, not, _&&_, _||_, or-true}
-use mathlib.Core.Logic.{_⊎_, inl, inr, ⊎-elim}
+use mathlib.Core.Logic.{_⊎_, ⊎-elim}
 use Prim.Native.Nat.{ℕ, zero, suc, _≤_, _<_}
 use native.Mathlib.Decide.{ℕ-discrete}
 use native.Mathlib.Omega.{arith}
 use borrow.Author.Tests.{ltb-true, leb-true, eqb-true, eq-eqb, ne-eqb, lt-ltb, not-false}
 use lib.Dec.{ltb, leb, eqb}
-use lib.ListN.{length, getD}
 use Rattle.clock.specs.Clock.{number}
+use Rattle.clock.specs.Laws.{ZeroPast}
 use Rattle.desk.specs.declared.Event.{Event}
 use Rattle.desk.specs.declared.Slot.{Slot}
-use Rattle.desk.specs.declared.Tray.{Tray}
 use Rattle.desk.specs.Desk.{keeps, waits}
-use Rattle.desk.specs.RuleLaws.{passed, either-is, not-both}
+use Rattle.desk.specs.RuleLaws.{passed, one-of, not-both}
 use Rattle.desk.specs.Rules.{eventRefusal}
-use Rattle.desk.specs.Sound.{keeperSound}
-use Rattle.desk.specs.SoundLaws.{TrayRule, SoundRule, rule-sound, no-way}
+use Rattle.desk.specs.SoundLaws.{SoundRule, rule-sound, no-way}
 use Rattle.lists.specs.Test.{both-left, both-right}
 use Rattle.table.specs.declared.Outcome.{Outcome}
 use Rattle.table.specs.declared.Table.{Table}
 use Rattle.table.specs.Rows.{Sized}
 use Rattle.table.specs.Rules.{isOwn, isAsked, isAnswered, refusal, takeRule, bringRule, ownRule, done, unless, eventRule}
 use Rattle.table.specs.Sound.{tableSound}
-use Rattle.table.specs.SoundLaws.{TableRule}
+use Rattle.table.specs.SoundLaws.{TableRule, table-rule, desk-below, keeper-desk}
 use Rattle.table.specs.Table.{slotOf, keeperOf, recordOf}
 
 -- the outcome of a refusal
@@ -36,28 +34,22 @@ abbrev pub keeperFor : Table → ℕ → ℕ
 keeperFor t desk = keeperOf t (slotOf t desk .cell)
 
 -- ---- a slot's kind
+pub asked-kind : (s : Slot) → isAsked s ≡ true → (s .kind ≡ 1) ⊎ (s .kind ≡ 2)
+unfolding isAsked
+asked-kind s = one-of (s .kind) 1 2
+
+pub answered-kind : (s : Slot) → isAnswered s ≡ true → (s .kind ≡ 3) ⊎ (s .kind ≡ 4)
+unfolding isAnswered
+answered-kind s = one-of (s .kind) 3 4
+
 pub kind-waits : (s : Slot) → 1 ≤ s .kind → waits s ≡ true
 unfolding waits
 kind-waits s h = ap not (ne-eqb (s .kind) 0 (omega arith))
 
-pub asked-kind : (s : Slot) → isAsked s ≡ true → (s .kind ≡ 1) ⊎ (s .kind ≡ 2)
-unfolding isAsked
-asked-kind s e = ⊎-elim (λ k. inl (eqb-true (s .kind) 1 k)) (λ k. inr (eqb-true (s .kind) 2 k)) (either-is (eqb (s .kind) 1) (eqb (s .kind) 2) e)
-
-pub answered-kind : (s : Slot) → isAnswered s ≡ true → (s .kind ≡ 3) ⊎ (s .kind ≡ 4)
-unfolding isAnswered
-answered-kind s e = ⊎-elim (λ k. inl (eqb-true (s .kind) 3 k)) (λ k. inr (eqb-true (s .kind) 4 k)) (either-is (eqb (s .kind) 3) (eqb (s .kind) 4) e)
-
-pub asked-waits : (s : Slot) → isAsked s ≡ true → waits s ≡ true
-asked-waits s e = kind-waits s (⊎-elim (λ k. omega arith) (λ k. omega arith) (asked-kind s e))
-
-pub answered-waits : (s : Slot) → isAnswered s ≡ true → waits s ≡ true
-answered-waits s e = kind-waits s (⊎-elim (λ k. omega arith) (λ k. omega arith) (answered-kind s e))
-
 -- ---- the tests
 pub record Passed (t : Table) (e : Event) : Type 0 where
-  pub sound : tableSound t ≡ true
-  pub kind : (leb 1 (e .kind) && leb (e .kind) 5) ≡ true
+  pub sound : TableRule t
+  pub kind : (1 ≤ e .kind) × (e .kind ≤ 5)
   pub desk-is : e .desk < t .tray .desks
   pub in-range : isOwn e ≡ true → e .cell < t .tray .cells
   pub idle : isOwn e ≡ true → waits (slotOf t (e .desk)) ≡ false
@@ -65,6 +57,10 @@ pub record Passed (t : Table) (e : Event) : Type 0 where
   pub answered : e .kind ≡ 4 → isAnswered (slotOf t (e .desk)) ≡ true
   pub not-kept : (eqb (e .kind) 5 && keeps (t .tray) (e .desk) (e .cell)) ≡ false
   pub below : (eqb (e .kind) 2 && eqb (number (recordOf t (e .desk) .clock) (e .desk)) 4294967295) ≡ false
+
+-- a test that was no reason to refuse, where it applies
+needed : (a b : Bool) → (a && not b) ≡ false → a ≡ true → b ≡ true
+needed a b p q = not-false b (not-both a (not b) p q)
 
 -- neither of two tests
 neither-left : (a b : Bool) → (a || b) ≡ false → a ≡ false
@@ -75,9 +71,9 @@ neither-right : (a b : Bool) → (a || b) ≡ false → b ≡ false
 neither-right true b e = cc
 neither-right false b e = e
 
-pub pass : (t : Table) (e : Event) → refusal t e ≡ 0 → Passed t e
+pub pass : (t : Table) (e : Event) → Sized t → refusal t e ≡ 0 → Passed t e
 unfolding refusal
-pass t e p =
+pass t e z p =
     let own = isOwn e in
     let slot = slotOf t (e .desk) in
     let request = eqb (e .kind) 3 && not (isAsked slot) in
@@ -90,27 +86,24 @@ pass t e p =
     let full = passed (request || answer) 12 _ (idle .1) in
     let kept = passed (eqb (e .kind) 5 && keeps (t .tray) (e .desk) (e .cell)) 13 _ (full .1) in
     let limit = passed (eqb (e .kind) 2 && eqb (number (recordOf t (e .desk) .clock) (e .desk)) 4294967295) 15 0 (kept .1) in
+    let in-kinds = not-false (leb 1 (e .kind) && leb (e .kind) 5) (kind .0) in
     record {
-      sound = not-false (tableSound t) (sound .0);
-      kind = not-false (leb 1 (e .kind) && leb (e .kind) 5) (kind .0);
+      sound = table-rule t z (not-false (tableSound t) (sound .0));
+      kind = (leb-true 1 (e .kind) (search (both-left, both-right)), leb-true (e .kind) 5 (search (both-left, both-right)));
       desk-is = ltb-true (e .desk) (t .tray .desks) (not-false (ltb (e .desk) (t .tray .desks)) (desk .0));
-      in-range =
-          λ o. ltb-true (e .cell) (t .tray .cells) (not-false (ltb (e .cell) (t .tray .cells)) (not-both own (not (ltb (e .cell) (t .tray .cells))) (range .0) o));
+      in-range = λ o. ltb-true (e .cell) (t .tray .cells) (needed own (ltb (e .cell) (t .tray .cells)) (range .0) o);
       idle = not-both own (waits slot) (idle .0);
-      asked =
-          λ k. not-false (isAsked slot) (not-both (eqb (e .kind) 3) (not (isAsked slot)) (neither-left request answer (full .0)) (eq-eqb (e .kind) 3 k));
-      answered =
-          λ k. not-false (isAnswered slot) (not-both (eqb (e .kind) 4) (not (isAnswered slot)) (neither-right request answer (full .0)) (eq-eqb (e .kind) 4 k));
+      asked = λ k. needed (eqb (e .kind) 3) (isAsked slot) (neither-left request answer (full .0)) (eq-eqb (e .kind) 3 k);
+      answered = λ k. needed (eqb (e .kind) 4) (isAnswered slot) (neither-right request answer (full .0)) (eq-eqb (e .kind) 4 k);
       not-kept = kept .0;
       below = limit .0;
     }
 
+-- ---- every event
 -- a kind 1 to 5 that is neither 3 nor 4 is a desk's own
-pub own-kind : (t : Table) (e : Event) → Passed t e → (e .kind ≡ 3 → ⊥) → (e .kind ≡ 4 → ⊥) → isOwn e ≡ true
+pub own-kind : (e : Event) → 1 ≤ e .kind → e .kind ≤ 5 → (e .kind ≡ 3 → ⊥) → (e .kind ≡ 4 → ⊥) → isOwn e ≡ true
 unfolding isOwn
-own-kind t e a p q =
-    let least : 1 ≤ e .kind = leb-true 1 (e .kind) (search (both-left, both-right)) in
-    let most : e .kind ≤ 5 = leb-true (e .kind) 5 (search (both-left, both-right)) in
+own-kind e least most p q =
     elim (ℕ-discrete (e .kind) 1) [
       | yes k ↦ rw (eq-eqb (e .kind) 1 k)
       | no k ↦ elim (ℕ-discrete (e .kind) 2) [
@@ -119,29 +112,55 @@ own-kind t e a p q =
       ]
     ]
 
--- ---- every event
-module _ (P : Outcome → Type 0) (t : Table) (e : Event) (refuse : (refusal t e ≡ 0 → ⊥) → P (refused (refusal t e) t))
-    (take : Passed t e → e .kind ≡ 3 → P (takeRule t (e .desk)))
-    (bring : Passed t e → e .kind ≡ 4 → P (bringRule t (e .desk)))
-    (own : Passed t e → isOwn e ≡ true → P (ownRule t e)) where
-  done-is : Passed t e → P (done t e)
-  unfolding done
-  done-is a =
-      elim (ℕ-discrete (e .kind) 3) [
-        | yes k ↦ rw (eq-eqb (e .kind) 3 k) (take a k)
-        | no k ↦ elim (ℕ-discrete (e .kind) 4) [
-          | yes l ↦ rw (ne-eqb (e .kind) 3 k, eq-eqb (e .kind) 4 l) (bring a l)
-          | no l ↦ rw (ne-eqb (e .kind) 3 k, ne-eqb (e .kind) 4 l) (own a (own-kind t e a k l))
-        ]
-      ]
+-- and no take and no bring
+pub own-else : (e : Event) → isOwn e ≡ true → (e .kind ≡ 3 → ⊥) × (e .kind ≡ 4 → ⊥)
+unfolding isOwn
+own-else e o = (λ k. no-way false (rw k at o) refl, λ k. no-way false (rw k at o) refl)
 
-  pub each-event : P (eventRule t e)
-  unfolding eventRule unless
-  each-event = go (refusal t e) refl
-    where
-      go : (n : ℕ) → refusal t e ≡ n → P (unless n t (done t e))
-      go zero q = done-is (pass t e q)
-      go (suc n) q = rw q at (refuse (λ z. omega arith))
+-- the outcome of an event that is not refused, by its kind
+module _ (t : Table) (e : Event) (none : refusal t e ≡ 0) where
+  pub is-take : e .kind ≡ 3 → eventRule t e ≡ takeRule t (e .desk)
+  unfolding eventRule unless done
+  is-take k = rw (none, eq-eqb (e .kind) 3 k)
+
+  pub is-bring : e .kind ≡ 4 → eventRule t e ≡ bringRule t (e .desk)
+  unfolding eventRule unless done
+  is-bring k = rw (none, ne-eqb (e .kind) 3 (omega arith), eq-eqb (e .kind) 4 k)
+
+  pub is-own : isOwn e ≡ true → eventRule t e ≡ ownRule t e
+  unfolding eventRule unless done
+  is-own o = rw (none, ne-eqb (e .kind) 3 (own-else e o .0), ne-eqb (e .kind) 4 (own-else e o .1))
+
+-- a refusal: its number and nothing else, and the table as given
+pub event-refused : (t : Table) (e : Event) → (refusal t e ≡ 0 → ⊥) → eventRule t e ≡ refused (refusal t e) t
+unfolding eventRule unless
+event-refused t e some = go (refusal t e) some
+  where
+    go : (n : ℕ) → (n ≡ 0 → ⊥) → unless n t (done t e) ≡ refused n t
+    go zero some = absurd (some refl)
+    go (suc n) some = refl
+
+pub each-event : (P : Outcome → Type 0) (t : Table) (e : Event) → Sized t
+    → P (refused (refusal t e) t)
+    → (Passed t e → e .kind ≡ 3 → P (takeRule t (e .desk)))
+    → (Passed t e → e .kind ≡ 4 → P (bringRule t (e .desk)))
+    → (Passed t e → isOwn e ≡ true → P (ownRule t e))
+    → P (eventRule t e)
+each-event P t e z refuse take bring own =
+    elim (ℕ-discrete (refusal t e) 0) [
+      | no some ↦ rw (event-refused t e some) refuse
+      | yes none ↦ done-is none (pass t e z none)
+    ]
+  where
+    done-is : refusal t e ≡ 0 → Passed t e → P (eventRule t e)
+    done-is none a =
+        elim (ℕ-discrete (e .kind) 3) [
+          | yes k ↦ rw (is-take t e none k) (take a k)
+          | no k ↦ elim (ℕ-discrete (e .kind) 4) [
+            | yes l ↦ rw (is-bring t e none l) (bring a l)
+            | no l ↦ (let o = own-kind e (a .kind .0) (a .kind .1) k l in rw (is-own t e none o) (own a o))
+          ]
+        ]
 
 -- ---- the desks that an event names
 -- a waiting desk asks another: the keeper of the cell that its slot names
@@ -152,54 +171,68 @@ pub record Asks (t : Table) (desk : ℕ) : Type 0 where
   pub keeps-it : keeps (t .tray) (keeperFor t desk) (slotOf t desk .cell) ≡ true
   pub another : keeperFor t desk ≡ desk → ⊥
 
--- a cell's keeper is a desk
-pub keeper-desk : (t : Tray) (c : ℕ) → TrayRule t → length (t .keepers) ≡ 32 → c < t .cells → getD (t .keepers) c 0 < t .desks
-unfolding keeperSound
-keeper-desk t c r long h =
-    ltb-true (getD (t .keepers) c 0) (t .desks) (rw (lt-ltb c (t .cells) h) at (r .keeper-is c (omega (arith, r .cells-most))))
+asks : (t : Table) → TableRule t → (desk : ℕ) → desk < t .tray .desks → waits (slotOf t desk) ≡ true → Asks t desk
+unfolding recordOf keeps
+asks t r desk h w =
+    record {
+      cell-is = range;
+      not-kept = other;
+      keeper-is = keeper-desk (t .tray) c (r .tray-is) (r .sized .all-keepers) range;
+      keeps-it = kept (keeperFor t desk) refl;
+      another = λ q. no-way (keeps (t .tray) desk c) (kept desk q) other;
+    }
+  where
+    c : ℕ
+    c = slotOf t desk .cell
 
-pub desk-below : (t : Table) → TableRule t → (desk : ℕ) → desk < t .tray .desks → desk < 8
-desk-below t r desk h = omega (arith, r .tray-is .desks-most)
+    range : c < t .tray .cells
+    range = r .row-is desk h .slot-is .in-range w
 
-module _ (t : Table) (z : Sized t) (r : TableRule t) where
-  pub asks : (desk : ℕ) → desk < t .tray .desks → waits (slotOf t desk) ≡ true → Asks t desk
-  unfolding recordOf keeps
-  asks desk h w =
-      record {
-        cell-is = range;
-        not-kept = other;
-        keeper-is = keeper-desk (t .tray) c (r .tray-is) (z .all-keepers) range;
-        keeps-it = kept (keeperFor t desk) refl;
-        another = λ q. no-way (keeps (t .tray) desk c) (kept desk q) other;
-      }
-    where
-      c : ℕ
-      c = slotOf t desk .cell
+    other : keeps (t .tray) desk c ≡ false
+    other = r .row-is desk h .slot-is .not-kept w
 
-      range : c < t .tray .cells
-      range = r .row-is desk h .slot-is .in-range w
+    kept : (k : ℕ) → keeperFor t desk ≡ k → keeps (t .tray) k c ≡ true
+    kept k q = rw (lt-ltb c (t .tray .cells) range, eq-eqb (keeperFor t desk) k q)
 
-      other : keeps (t .tray) desk c ≡ false
-      other = r .row-is desk h .slot-is .not-kept w
+module _ (t : Table) (e : Event) (a : Passed t e) where
+  pub here : e .desk < 8
+  here = desk-below t (a .sound) (e .desk) (a .desk-is)
 
-      kept : (k : ℕ) → keeperFor t desk ≡ k → keeps (t .tray) k c ≡ true
-      kept k q = rw (lt-ltb c (t .tray .cells) range, eq-eqb (keeperFor t desk) k q)
+  pub take-asks : e .kind ≡ 3 → Asks t (e .desk)
+  take-asks k =
+      let s = slotOf t (e .desk) in
+      asks t (a .sound) (e .desk) (a .desk-is) (kind-waits s (⊎-elim (λ l. omega arith) (λ l. omega arith) (asked-kind s (a .asked k))))
 
-  -- a desk whose slot may still be asked is sound by itself
-  pub own-sound : (desk : ℕ) → desk < t .tray .desks → slotOf t desk .kind ≤ 2 → SoundRule (recordOf t desk)
+  pub answer-waits : e .kind ≡ 4 → waits (slotOf t (e .desk)) ≡ true
+  answer-waits k =
+      let s = slotOf t (e .desk) in
+      kind-waits s (⊎-elim (λ l. omega arith) (λ l. omega arith) (answered-kind s (a .answered k)))
+
+  pub bring-asks : e .kind ≡ 4 → Asks t (e .desk)
+  bring-asks k = asks t (a .sound) (e .desk) (a .desk-is) (answer-waits k)
+
+  -- "numbers past the desk count are 0", in the slot as in the message
+  pub slot-past : ZeroPast (t .tray .desks) (slotOf t (e .desk) .clock)
   unfolding recordOf
-  own-sound desk h k = record { tray-is = r .tray-is; row-is = r .row-is desk h; asked = k }
+  slot-past = a .sound .row-is (e .desk) (a .desk-is) .slot-is .clock-past
 
   -- a desk's own event passes the desk's tests too
-  pub own-passes : (e : Event) → Passed t e → isOwn e ≡ true → eventRefusal (recordOf t (e .desk)) e ≡ 0
-  unfolding eventRefusal isOwn recordOf waits
-  own-passes e a o =
-      let empty : slotOf t (e .desk) .kind ≡ 0 = eqb-true (slotOf t (e .desk) .kind) 0 (not-false (eqb (slotOf t (e .desk) .kind) 0) (a .idle o)) in
-      rw (
-        rule-sound (recordOf t (e .desk)) (own-sound (e .desk) (a .desk-is) (omega arith)),
-        o,
-        lt-ltb (e .cell) (t .tray .cells) (a .in-range o),
-        a .idle o,
-        a .not-kept,
-        a .below,
-      )
+  module _ (o : isOwn e ≡ true) where
+    pub own-sound : SoundRule (recordOf t (e .desk))
+    unfolding recordOf waits
+    own-sound =
+        let s = slotOf t (e .desk) in
+        let empty : s .kind ≡ 0 = eqb-true (s .kind) 0 (not-false (eqb (s .kind) 0) (a .idle o)) in
+        record { tray-is = a .sound .tray-is; row-is = a .sound .row-is (e .desk) (a .desk-is); asked = omega arith }
+
+    pub own-passes : eventRefusal (recordOf t (e .desk)) e ≡ 0
+    unfolding eventRefusal isOwn recordOf
+    own-passes =
+        rw (
+          rule-sound (recordOf t (e .desk)) own-sound,
+          o,
+          lt-ltb (e .cell) (t .tray .cells) (a .in-range o),
+          a .idle o,
+          a .not-kept,
+          a .below,
+        )

@@ -5,13 +5,15 @@ use mathlib.Core.Bool.{true, false, not}
 use Prim.Native.Nat.{ℕ, _≤_, _<_}
 use native.Mathlib.Decide.{decLt}
 use native.Mathlib.Omega.{arith}
-use borrow.Author.Tests.{eqb-true, eq-eqb, lt-ltb, le-ltb, not-true}
-use lib.ListN.{length}
+use borrow.Author.Tests.{ltb-true, eqb-true, eq-eqb, lt-ltb, le-ltb, not-true}
+use lib.ListN.{length, getD}
 use Rattle.clock.specs.Laws.{ZeroPast, within-past, past-within}
 use Rattle.desk.specs.declared.Cell.{Cell}
 use Rattle.desk.specs.declared.Record.{Record}
 use Rattle.desk.specs.declared.Slot.{Slot}
+use Rattle.desk.specs.declared.Tray.{Tray}
 use Rattle.desk.specs.Desk.{pastEnd, cellAt}
+use Rattle.desk.specs.Sound.{keeperSound}
 use Rattle.desk.specs.SoundLaws.{TrayRule, tray-rule, rule-tray, RowRule, row-rule, rule-row}
 use Rattle.lists.specs.Test.{both, both-left, both-right, every-mapAt, mapAt-every}
 use Rattle.table.specs.declared.Table.{Table}
@@ -88,33 +90,46 @@ none-row v r =
 
 -- ---- the table
 pub record TableRule (t : Table) : Type 0 where
+  pub sized : Sized t
   pub tray-is : TrayRule (t .tray)
   pub row-is : (p : ℕ) → p < t .tray .desks → RowRule (recordOf t p)
   pub row-none : (p : ℕ) → t .tray .desks ≤ p → p < 8 → RowNone (recordOf t p)
 
-module _ (t : Table) (z : Sized t) where
-  pub table-rule : tableSound t ≡ true → TableRule t
-  unfolding tableSound deskSound
-  table-rule e =
-      record {
-        tray-is = tray;
-        row-is = λ p h. row-rule (recordOf t p) (rw (lt-ltb p (t .tray .desks) h) at (desk p (omega (arith, tray .desks-most))));
-        row-none = λ p h i. row-none (recordOf t p) (rw (le-ltb p (t .tray .desks) h) at (desk p i));
-      }
-    where
-      tray : TrayRule (t .tray)
-      tray = tray-rule (t .tray) (search (both-left, both-right))
+pub table-rule : (t : Table) → Sized t → tableSound t ≡ true → TableRule t
+unfolding tableSound deskSound
+table-rule t z e =
+    record {
+      sized = z;
+      tray-is = tray;
+      row-is = λ p h. row-rule (recordOf t p) (rw (lt-ltb p (t .tray .desks) h) at (desk p (omega (arith, tray .desks-most))));
+      row-none = λ p h i. row-none (recordOf t p) (rw (le-ltb p (t .tray .desks) h) at (desk p i));
+    }
+  where
+    tray : TrayRule (t .tray)
+    tray = tray-rule (t .tray) (search (both-left, both-right))
 
-      desk : (p : ℕ) → p < 8 → deskSound t p ≡ true
-      desk p h = every-mapAt (λ p _. deskSound t p) (t .clocks) pastClock (search (both-left, both-right)) p (omega arith)
+    desk : (p : ℕ) → p < 8 → deskSound t p ≡ true
+    desk p h = every-mapAt (λ p _. deskSound t p) (t .clocks) pastClock (search (both-left, both-right)) p (omega arith)
 
-  pub rule-table : TableRule t → tableSound t ≡ true
-  unfolding tableSound deskSound
-  rule-table r = both (rule-tray (t .tray) (r .tray-is)) (mapAt-every (λ p _. deskSound t p) (t .clocks) pastClock (λ p h. desk p (omega arith)))
-    where
-      desk : (p : ℕ) → p < 8 → deskSound t p ≡ true
-      desk p i =
-          elim (decLt p (t .tray .desks)) [
-            | yes h ↦ rw (lt-ltb p (t .tray .desks) h) (rule-row (recordOf t p) (r .row-is p h))
-            | no h ↦ rw (le-ltb p (t .tray .desks) (omega arith)) (none-row (recordOf t p) (r .row-none p (omega arith) i))
-          ]
+pub rule-table : (t : Table) → TableRule t → tableSound t ≡ true
+unfolding tableSound deskSound
+rule-table t r =
+    both (rule-tray (t .tray) (r .tray-is))
+    (mapAt-every (λ p _. deskSound t p) (t .clocks) pastClock (λ p h. desk p (omega (arith, r .sized .all-clocks))))
+  where
+    desk : (p : ℕ) → p < 8 → deskSound t p ≡ true
+    desk p i =
+        elim (decLt p (t .tray .desks)) [
+          | yes h ↦ rw (lt-ltb p (t .tray .desks) h) (rule-row (recordOf t p) (r .row-is p h))
+          | no h ↦ rw (le-ltb p (t .tray .desks) (omega arith)) (none-row (recordOf t p) (r .row-none p (omega arith) i))
+        ]
+
+-- ---- what every place that is named needs
+pub desk-below : (t : Table) → TableRule t → (desk : ℕ) → desk < t .tray .desks → desk < 8
+desk-below t r desk h = omega (arith, r .tray-is .desks-most)
+
+-- a cell's keeper is a desk
+pub keeper-desk : (t : Tray) (c : ℕ) → TrayRule t → length (t .keepers) ≡ 32 → c < t .cells → getD (t .keepers) c 0 < t .desks
+unfolding keeperSound
+keeper-desk t c r long h =
+    ltb-true (getD (t .keepers) c 0) (t .desks) (rw (lt-ltb c (t .cells) h) at (r .keeper-is c (omega (arith, r .cells-most))))

@@ -4,9 +4,9 @@ use mathlib.Core.Path.{_≡_, sym, _∙_}
 use borrow.Author.Tests.{lt-ltb, le-ltb, le-leb, lt-leb, eq-eqb, ne-eqb, not-true, not-false, ltb-true}
 use Rattle.lists.specs.Each.{length-mapped}
 use Rattle.table.specs.Rules.{unless, done, eventRule}
-use Rattle.table.specs.Places.{desk-there, unless-refused, take-there, bring-there, own-there}
+use Rattle.table.specs.Places.{unless-refused, take-there, bring-there, own-there}
 use Rattle.table.specs.Rows.{Sized}
-use Rattle.table.specs.RuleLaws.{pass}
+use Rattle.table.specs.RuleLaws.{pass, here}
 use Rattle.table.proofs.Table.event.Statement.{statement}
 use Rattle.table.proofs.Table.event.Tie as tie
 use Rattle.table.proofs.Table.event.Reads as reads
@@ -29,15 +29,17 @@ returns c = rw (← c .before .before .refusal .ensures) (c .refused .ensures �
 
 cast-desk : tie.Need-cast-desk
 cast-desk c =
-    let a = pass (c .before .before .before .args .self) (c .before .before .before .args .e) (sym (c .before .before .refusal .ensures) ∙ c .before .if1 .left) in
-    omega (arith, desk-there (c .before .before .before .args .self) (a .sound) (c .before .before .before .args .e .desk) (a .desk-is))
+    let t = c .before .before .before .args .self in
+    let z : Sized t = record { all-keepers = search (needs, c .before .before .before .good .0); all-clocks = search (needs, length-mapped, c .before .before .before .good .0); all-slots = search (needs, length-mapped, c .before .before .before .good .0); all-served = search (needs, length-mapped, c .before .before .before .good .0); all-cells = search (needs, length-mapped, c .before .before .before .good .0) } in
+    let a = pass t (c .before .before .before .args .e) z (sym (c .before .before .refusal .ensures) ∙ c .before .if1 .left) in
+    omega (arith, here t (c .before .before .before .args .e) a)
 
 take-requires : tie.Need-take-requires
 take-requires c κs =
     let t = c .before .before .before .before .args .self in
     let e = c .before .before .before .before .args .e in
     let z : Sized t = record { all-keepers = search (needs, c .before .before .before .before .good .0); all-clocks = search (needs, length-mapped, c .before .before .before .before .good .0); all-slots = search (needs, length-mapped, c .before .before .before .before .good .0); all-served = search (needs, length-mapped, c .before .before .before .before .good .0); all-cells = search (needs, length-mapped, c .before .before .before .before .good .0) } in
-    take-there t z e (pass t e (sym (c .before .before .before .refusal .ensures) ∙ c .before .before .if1 .left)) (c .if2 .taken)
+    take-there t e (pass t e z (sym (c .before .before .before .refusal .ensures) ∙ c .before .before .if1 .left)) (c .if2 .taken)
 
 returns-2 : tie.Need-returns-2
 unfolding eventRule done unless
@@ -48,7 +50,7 @@ bring-requires c κs =
     let t = c .before .before .before .before .before .args .self in
     let e = c .before .before .before .before .before .args .e in
     let z : Sized t = record { all-keepers = search (needs, c .before .before .before .before .before .good .0); all-clocks = search (needs, length-mapped, c .before .before .before .before .before .good .0); all-slots = search (needs, length-mapped, c .before .before .before .before .before .good .0); all-served = search (needs, length-mapped, c .before .before .before .before .before .good .0); all-cells = search (needs, length-mapped, c .before .before .before .before .before .good .0) } in
-    bring-there t z e (pass t e (sym (c .before .before .before .before .refusal .ensures) ∙ c .before .before .before .if1 .left)) (c .if3 .taken)
+    bring-there t e (pass t e z (sym (c .before .before .before .before .refusal .ensures) ∙ c .before .before .before .if1 .left)) (c .if3 .taken)
 
 returns-3 : tie.Need-returns-3
 unfolding eventRule done unless
@@ -59,7 +61,7 @@ own-requires c κs =
     let t = c .before .before .before .before .before .args .self in
     let e = c .before .before .before .before .before .args .e in
     let z : Sized t = record { all-keepers = search (needs, c .before .before .before .before .before .good .0); all-clocks = search (needs, length-mapped, c .before .before .before .before .before .good .0); all-slots = search (needs, length-mapped, c .before .before .before .before .before .good .0); all-served = search (needs, length-mapped, c .before .before .before .before .before .good .0); all-cells = search (needs, length-mapped, c .before .before .before .before .before .good .0) } in
-    own-there t z e (pass t e (sym (c .before .before .before .before .refusal .ensures) ∙ c .before .before .before .if1 .left)) (c .before .if2 .left) (c .if3 .left)
+    own-there t e (pass t e z (sym (c .before .before .before .before .refusal .ensures) ∙ c .before .before .before .if1 .left)) (c .before .if2 .left) (c .if3 .left)
 
 returns-4 : tie.Need-returns-4
 unfolding eventRule done unless
