@@ -6,7 +6,7 @@ use Prim.Native.Nat.{ℕ, zero, suc, _+_, _*_, _/_, _%_, _^_, _<_, _≤_}
 use native.Mathlib.Nat.{pow-suc, add-zero, zero-add, add-suc, suc-add}
 use native.Mathlib.Decide.{decLt}
 use native.Mathlib.Omega.{arith}
-use lib.ListN.{length, getD, take, drop, length-append, length-take, length-drop, drop-of-length-le, List·getD-eq-default}
+use lib.ListN.{length, getD, take, drop, length-append, length-take, length-drop, take-append-drop, drop-of-length-le, List·getD-eq-default}
 use lib.Seq.{length-take-le, take-at, drop-at, take-add, drop-drop, take-all, take-nil, getD-take, getD-drop}
 use Rattle.lists.specs.Sum.{sum}
 
@@ -101,6 +101,16 @@ spell-next c (w ∷ ws) [] h i = absurd (omega arith)
 spell-next zero (w ∷ ws) (n ∷ ns) h i = append-nil (bytes w n)
 spell-next (suc c) (w ∷ ws) (n ∷ ns) h i =
     rw (spell-next c ws ns (omega arith) (omega arith), append-assoc (bytes w n) (spell (take c ws) ns) (bytes (getD ws c 0) (getD ns c 0)))
+
+pub put-none : (l : List ℕ) (p : ℕ) → l ≡ take p l ++ [] ++ drop p l
+put-none l p = sym (ap (λ (x : List ℕ). x ++ drop p l) (append-nil (take p l)) ∙ take-append-drop p l)
+
+-- a list that starts with `first`, after which more is put: the list that starts with both
+pub put-next : (l first more : List ℕ) (p n : ℕ) → length first ≡ p
+    → take p (first ++ drop p l) ++ more ++ drop (p + n) (first ++ drop p l) ≡ first ++ more ++ drop (p + n) l
+put-next l first more p n e =
+    ap₂ (λ (x y : List ℕ). x ++ more ++ y) (take-at first (drop p l) p e)
+    (sym (drop-drop n p (first ++ drop p l)) ∙ ap (drop n) (drop-at first (drop p l) p e) ∙ drop-drop n p l)
 
 -- past the end every number is 0
 numbers-past : (ws ns s : List ℕ) (p : ℕ) → length s ≤ p → length ns ≡ length ws → ((k : ℕ) → getD ns k 0 ≡ 0) → numbers ws p s ≡ ns

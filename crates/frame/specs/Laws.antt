@@ -13,8 +13,9 @@ use borrow.Author.Tests.{ltb-true, ltb-false, leb-true, leb-false, eqb-true, lt-
 use Rattle.lists.specs.Sum.{sum}
 use Rattle.desk.specs.declared.Message.{Message}
 use Rattle.frame.specs.declared.Reading.{Reading}
-use Rattle.frame.specs.Bytes.{numeral, followed, numbers}
-use Rattle.frame.specs.Frame.{_given_, _orElse_, version, kinds, widths, carried, parts, lengthOf, faultOf, faultIn, messageOf, lengthIn, versionIn, messageIn, readCode, noMessage, readWith, readRule}
+use Rattle.frame.specs.declared.Written.{Written}
+use Rattle.frame.specs.Bytes.{numeral, followed, bytes, spell, numbers}
+use Rattle.frame.specs.Frame.{_given_, _orElse_, version, kinds, widths, carried, parts, lengthOf, faultOf, faultIn, messageOf, lengthIn, versionIn, messageIn, readCode, noMessage, readWith, readRule, rowOf, frameOf, wellFormed, writeCode, writtenWith, outputWith, writeRule, outputRule}
 
 -- ---- bytes at their places
 pub next-byte : (w p q : ℕ) (s : List ℕ) → q ≡ p + 1 → p < length s → take (suc w) (drop p s) ≡ getD s p 0 ∷ take w (drop q s)
@@ -85,7 +86,7 @@ carried-le kind desks = go (not (eqb kind 1))
     go true = omega arith
     go false = omega arith
 
-sum-fours : (c n : ℕ) → c ≤ n → sum (take c (replicate n 4)) ≡ 4 * c
+pub sum-fours : (c n : ℕ) → c ≤ n → sum (take c (replicate n 4)) ≡ 4 * c
 unfolding sum
 sum-fours zero n h = refl
 sum-fours (suc c) zero h = absurd (omega arith)
@@ -219,3 +220,67 @@ module _ (s : List ℕ) where
   pub read-accepted : readCode s ≡ 0 → readRule s ≡ record { code = 0; message = messageIn (take (2 + lengthIn s) s); used = 2 + lengthIn s }
   unfolding readRule readWith
   read-accepted e = rw e
+
+-- ---- writing
+-- a frame is its head, and the numbers that it carries
+abbrev pub headOf : Message → ℕ → List ℕ
+headOf m size = spell (take 6 widths) (size ∷ version ∷ m .kind ∷ m .desks ∷ m .desk ∷ m .cell ∷ [])
+
+abbrev pub bodyOf : Message → ℕ → List ℕ
+bodyOf m c = spell (take c (drop 6 widths)) (m .word ∷ m .clock .n)
+
+pub frame-split : (m : Message) → frameOf m ≡ headOf m (lengthOf (m .kind) (m .desks)) ++ bodyOf m (carried (m .kind) (m .desks))
+unfolding frameOf rowOf spell bytes
+frame-split m = rw (take-add 6 (carried (m .kind) (m .desks)) widths)
+
+module _ (m : Message) (room : ℕ) where
+  pub faulty : (faultIn m ≡ 0 → ⊥) → writeCode m room ≡ faultIn m
+  unfolding writeCode
+  faulty ne = first-refusal (faultIn m) _ ne
+
+  pub not-well-formed : faultIn m ≡ 0 → wellFormed m ≡ false → writeCode m room ≡ 38
+  unfolding writeCode _given_ _orElse_
+  not-well-formed e f = rw (e, f)
+
+  pub no-room : faultIn m ≡ 0 → wellFormed m ≡ true → room < 2 + lengthOf (m .kind) (m .desks) → writeCode m room ≡ 37
+  unfolding writeCode _given_ _orElse_
+  no-room e f h = rw (e, f, lt-ltb _ _ h)
+
+  pub can-write : faultIn m ≡ 0 → wellFormed m ≡ true → 2 + lengthOf (m .kind) (m .desks) ≤ room → writeCode m room ≡ 0
+  unfolding writeCode _given_ _orElse_
+  can-write e f h = rw (e, f, le-ltb _ _ h)
+
+-- nothing to refuse
+pub record Writable (m : Message) (room : ℕ) : Type 0 where
+  pub known : Faultless (m .kind) (m .desks) (m .desk) (m .cell)
+  pub clean : wellFormed m ≡ true
+  pub fitting : 7 + 4 * carried (m .kind) (m .desks) ≤ room
+
+room-for : (m : Message) (room : ℕ) → m .desks ≤ 8 → ltb room (2 + lengthOf (m .kind) (m .desks)) ≡ false
+    → 7 + 4 * carried (m .kind) (m .desks) ≤ room
+room-for m room h e = omega (arith, ltb-false room _ e, length-of (m .kind) (m .desks) h)
+
+pub writable : (m : Message) (room : ℕ) → writeCode m room ≡ 0 → Writable m room
+unfolding writeCode
+writable m room e =
+    let a = peel-all (faultIn m) _ e in
+    let b = peel 37 _ _ (a .1) in
+    let known = faultless (m .kind) (m .desks) (m .desk) (m .cell) (a .0) in
+    record {
+      known = known;
+      clean = not-false _ (b .0);
+      fitting = room-for m room (known .desks-to) (peel-last 36 _ (b .1));
+    }
+
+module _ (m : Message) (out : List ℕ) where
+  pub write-refused : (code : ℕ) → code ≡ writeCode m (length out) → (code ≡ 0 → ⊥)
+      → (record { code = code; used = 0 } ≡ writeRule m out) × (out ≡ outputRule m out)
+  unfolding writeRule writtenWith outputRule outputWith
+  write-refused zero e ne = absurd (ne refl)
+  write-refused (suc c) e ne = (rw (← e), rw (← e))
+
+  pub write-accepted : writeCode m (length out) ≡ 0
+      → (writeRule m out ≡ record { code = 0; used = 2 + lengthOf (m .kind) (m .desks) })
+      × (outputRule m out ≡ frameOf m ++ drop (2 + lengthOf (m .kind) (m .desks)) out)
+  unfolding writeRule writtenWith outputRule outputWith
+  write-accepted e = (rw e, rw e)

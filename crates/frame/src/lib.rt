@@ -7,8 +7,10 @@ ghost use mathlib.Core.List.{[], _∷_, _++_};
 ghost use Prim.Native.Nat.{_+_, _*_, _≤_};
 ghost use lib.Dec.{ltb};
 ghost use lib.ListN.{length, take, drop};
+ghost use Rattle.lists.specs.Each.{mapAt};
+ghost use Rattle.lists.specs.Test.{every};
 ghost use Rattle.frame.specs.Bytes.{numeral, bytes, spell};
-ghost use Rattle.frame.specs.Frame.{version, kinds, widths, carried, lengthOf, faultOf, messageIn, readCode, readRule, wellFormed, writeCode, writeRule, outputRule};
+ghost use Rattle.frame.specs.Frame.{version, widths, carried, faultOf, messageIn, readCode, readRule, carriedOrZero, writeCode, writeRule, outputRule};
 
 // What reading gives: code 0, the message and how many bytes its frame has; or a refusal with an all-zero message and 0 used.
 pub struct Reading {
@@ -48,6 +50,28 @@ pub fn read(s: &[u8]) -> Reading
     Reading {
         code: 0,
         message: message_in(s, c),
+        used: 7 + 4 * c,
+    }
+}
+
+// The frame of a message, at the start of the output. A refusal leaves every byte as it was.
+pub fn write(m: Message, out: &mut [u8]) -> Written
+    ensures { λ r. ⌜ r ≡ writeRule m (now (out .entry)) ⌝ }
+    ensures { λ r. ⌜ now (out .exit) ≡ outputRule m (now (out .entry)) ⌝ }
+{
+    let code = write_code(m, out.len());
+    if code != 0 {
+        return Written {
+            code: code,
+            used: 0,
+        };
+    }
+    let c = carries(m.kind, m.desks);
+    put_head(out, 5 + 4 * c, m.kind, m.desks, m.desk, m.cell);
+    let clock = m.clock;
+    put_numbers(out, m.word, clock, c);
+    Written {
+        code: 0,
         used: 7 + 4 * c,
     }
 }
@@ -165,4 +189,77 @@ fn four(a: u8, b: u8, c: u8, d: u8) -> u32
     ensures { λ r. ⌜ r ≡ numeral (a ∷ b ∷ c ∷ d ∷ []) ⌝ }
 {
     ((a as u32 * 256 + b as u32) * 256 + c as u32) * 256 + d as u32
+}
+
+fn write_code(m: Message, room: usize) -> u32
+    ensures { λ r. ⌜ r ≡ writeCode m room ⌝ }
+{
+    let code = fault(m.kind, m.desks, m.desk, m.cell);
+    if code != 0 {
+        return code;
+    }
+    let c = carries(m.kind, m.desks);
+    let clock = m.clock;
+    if !rest_is_zero(m.word, clock, c) {
+        return 38;
+    }
+    if room < 7 + 4 * c {
+        return 37;
+    }
+    0
+}
+
+// Whether the word and the clock's numbers are 0 from place c on: they are not sent, so nothing may be lost with them.
+fn rest_is_zero(word: u32, clock: Clock, c: usize) -> bool
+    ensures { λ r. ⌜ r ≡ every (mapAt (carriedOrZero c) (word ∷ clock .n)) ⌝ }
+{
+    let mut zero = (0 < c) | (word == 0);
+    for k in 0..8 {
+        zero = zero & ((k + 1 < c) | (clock.n[k] == 0));
+    }
+    zero
+}
+
+fn put_head(out: &mut [u8], size: usize, kind: u8, desks: u8, desk: u8, cell: u8)
+    requires { ⌜ 7 ≤ length (now out) ⌝ }
+    ensures { λ _. ⌜ now (out .exit) ≡ spell (take 6 widths) (size ∷ version ∷ kind ∷ desks ∷ desk ∷ cell ∷ []) ++ drop 7 (now (out .entry)) ⌝ }
+{
+    out[0] = (size / 256 % 256) as u8;
+    out[1] = (size % 256) as u8;
+    out[2] = 1;
+    out[3] = kind;
+    out[4] = desks;
+    out[5] = desk;
+    out[6] = cell;
+}
+
+// The first c of the word and the clock's numbers, after the head.
+fn put_numbers(out: &mut [u8], word: u32, clock: Clock, c: usize)
+    requires { ⌜ (c ≤ 9) × (7 + 4 * c ≤ length (now out)) ⌝ }
+    ensures { λ _. ⌜ now (out .exit) ≡ take 7 (now (out .entry)) ++ spell (take c (drop 6 widths)) (word ∷ clock .n) ++ drop (7 + 4 * c) (now (out .entry)) ⌝ }
+{
+    if c == 0 {
+        return;
+    }
+    put_number(out, 7, word);
+    put_clock(out, clock, c - 1);
+}
+
+fn put_clock(out: &mut [u8], clock: Clock, desks: usize)
+    requires { ⌜ (desks ≤ 8) × (11 + 4 * desks ≤ length (now out)) ⌝ }
+    ensures { λ _. ⌜ now (out .exit) ≡ take 11 (now (out .entry)) ++ spell (take desks (drop 7 widths)) (clock .n) ++ drop (11 + 4 * desks) (now (out .entry)) ⌝ }
+{
+    for k in 0..desks {
+        put_number(out, 11 + 4 * k, clock.n[k]);
+    }
+}
+
+fn put_number(out: &mut [u8], at: usize, x: u32)
+    requires { ⌜ at + 4 ≤ length (now out) ⌝ }
+    ensures { λ _. ⌜ now (out .exit) ≡ take at (now (out .entry)) ++ bytes 4 x ++ drop (at + 4) (now (out .entry)) ⌝ }
+{
+    out[at] = (x / 256 / 256 / 256 % 256) as u8;
+    out[at + 1] = (x / 256 / 256 % 256) as u8;
+    out[at + 2] = (x / 256 % 256) as u8;
+    out[at + 3] = (x % 256) as u8;
 }
