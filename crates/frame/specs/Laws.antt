@@ -184,9 +184,14 @@ module _ (s : List ℕ) where
   unfolding readCode _given_ _orElse_
   whole-code w = rw (le-ltb _ _ (w .begun), le-ltb _ _ (w .there), le-ltb _ _ (w .headed), eq-eqb _ _ (w .ours))
 
+pub can-read : (s : List ℕ) → Whole s → faultIn (messageIn s) ≡ 0 → lengthIn s ≡ lengthOf (messageIn s .kind) (messageIn s .desks) → readCode s ≡ 0
+unfolding _given_
+can-read s w e f = whole-code s w ∙ none-first _ e ∙ rw (eq-eqb _ _ f)
+
 -- nothing to refuse
 pub record Accepted (s : List ℕ) : Type 0 where
   pub whole : Whole s
+  pub no-fault : faultIn (messageIn s) ≡ 0
   pub known : Faultless (messageIn s .kind) (messageIn s .desks) (messageIn s .desk) (messageIn s .cell)
   pub fitting : lengthIn s ≡ 5 + 4 * carried (messageIn s .kind) (messageIn s .desks)
 
@@ -207,6 +212,7 @@ accepted s e =
             headed = ltb-false _ _ (c .0);
             ours = eqb-true _ _ (not-false _ (d .0));
           };
+      no-fault = f .0;
       known = known;
       fitting = eqb-true _ _ (not-false _ (peel-last 35 _ (f .1))) ∙ length-of _ _ (known .desks-to);
     }
@@ -252,6 +258,7 @@ module _ (m : Message) (room : ℕ) where
 
 -- nothing to refuse
 pub record Writable (m : Message) (room : ℕ) : Type 0 where
+  pub no-fault : faultIn m ≡ 0
   pub known : Faultless (m .kind) (m .desks) (m .desk) (m .cell)
   pub clean : wellFormed m ≡ true
   pub fitting : 7 + 4 * carried (m .kind) (m .desks) ≤ room
@@ -267,6 +274,7 @@ writable m room e =
     let b = peel 37 _ _ (a .1) in
     let known = faultless (m .kind) (m .desks) (m .desk) (m .cell) (a .0) in
     record {
+      no-fault = a .0;
       known = known;
       clean = not-false _ (b .0);
       fitting = room-for m room (known .desks-to) (peel-last 36 _ (b .1));
