@@ -5,14 +5,33 @@ use mathlib.Core.Path.{_≡_, refl}
 use mathlib.Core.Bool.{true, false}
 use mathlib.Core.List.{List, [], _∷_, _++_}
 use Prim.Native.Nat.{ℕ}
-use lib.ListN.{take, replicate}
+use lib.ListN.{length, take, replicate}
+use Rattle.lists.specs.Sum.{sum}
 use Rattle.lists.specs.Test.{every, some}
 use Rattle.clock.specs.declared.Clock.{Clock}
-use Rattle.clock.specs.Clock.{paired, merged, isBefore}
+use Rattle.clock.specs.Clock.{paired, merged, isBefore, zeroClock}
+use Rattle.desk.specs.declared.Message.{Message}
+use Rattle.frame.specs.declared.Reading.{Reading}
+use Rattle.frame.specs.Bytes.{bytes, followed, spell, numbers}
+use Rattle.frame.specs.Frame.{_given_, _orElse_, carried, lengthOf, rowOf, messageOf, frameOf, faultOf, noMessage, readCode, readWith, readRule}
 
 -- a clock by its first numbers; the others are 0
 abbrev clock : List ℕ → Clock
 clock ns = record { n = take 8 (ns ++ replicate 8 0) }
+
+-- what a desk asks: to read, or to write a word
+abbrev readAsked : ℕ → ℕ → ℕ → Message
+readAsked desks desk cell = record { kind = 1; desks = desks; desk = desk; cell = cell; word = 0; clock = clock [] }
+
+abbrev writeAsked : ℕ → ℕ → ℕ → ℕ → List ℕ → Message
+writeAsked desks desk cell word sent = record { kind = 2; desks = desks; desk = desk; cell = cell; word = word; clock = clock sent }
+
+-- these bytes are the frame of this message: they are written for it, and read as it to the last
+abbrev IsFrame : List ℕ → Message → Type 0
+IsFrame s m = (frameOf m ≡ s) × (readRule s ≡ record { code = 0; message = m; used = length s })
+
+abbrev p10 : List ℕ
+p10 = 0x00 ∷ 0x05 ∷ 0x01 ∷ 0x01 ∷ 0x03 ∷ 0x00 ∷ 0x00 ∷ []
 
 unfoldable pub edges : List (Type 0)
 edges =
@@ -24,6 +43,15 @@ edges =
     ∷ (isBefore (clock (0 ∷ 0 ∷ 1 ∷ [])) (clock (0 ∷ 0 ∷ 1 ∷ [])) ≡ false)
     -- P4 (1,0) and (0,1): neither is before the other
     ∷ ((isBefore (clock (1 ∷ 0 ∷ [])) (clock (0 ∷ 1 ∷ [])) ≡ false) × (isBefore (clock (0 ∷ 1 ∷ [])) (clock (1 ∷ 0 ∷ [])) ≡ false))
+    -- P10 read asked, 3 desks, desk 0, cell 0
+    ∷ IsFrame p10 (readAsked 3 0 0)
+    -- P11 write asked, 3 desks, desk 2, cell 1, word 500, clock (0,0,2)
+    ∷ IsFrame
+    (0x00 ∷ 0x15 ∷ 0x01 ∷ 0x02 ∷ 0x03 ∷ 0x02 ∷ 0x01 ∷ 0x00 ∷ 0x00 ∷ 0x01 ∷ 0xF4
+    ∷ 0x00 ∷ 0x00 ∷ 0x00 ∷ 0x00 ∷ 0x00 ∷ 0x00 ∷ 0x00 ∷ 0x00 ∷ 0x00 ∷ 0x00 ∷ 0x00 ∷ 0x02 ∷ [])
+    (writeAsked 3 2 1 500 (0 ∷ 0 ∷ 2 ∷ []))
+    -- P12 P10 without its last byte: 30
+    ∷ (readRule (take 6 p10) ≡ record { code = 30; message = noMessage; used = 0 })
     ∷ []
 
 -- every statement of a list holds
@@ -32,5 +60,6 @@ Hold [] = Unit {0}
 Hold (p ∷ ps) = p × Hold ps
 
 pub edges-hold : Hold edges
-unfolding edges Hold merged isBefore paired every some
-edges-hold = (refl, (refl, (refl, ((refl, refl), tt))))
+unfolding edges Hold merged isBefore paired every some sum zeroClock
+    bytes followed spell numbers _given_ _orElse_ carried lengthOf rowOf messageOf frameOf faultOf readCode readWith readRule
+edges-hold = (refl, (refl, (refl, ((refl, refl), ((refl, refl), ((refl, refl), (refl, tt)))))))
