@@ -41,7 +41,7 @@ pub fn read(s: &[u8]) -> Reading
     let code = read_code(s);
     if code != 0 {
         return Reading {
-            code: code,
+            code,
             message: NO_MESSAGE,
             used: 0,
         };
@@ -61,18 +61,16 @@ pub fn write(m: Message, out: &mut [u8]) -> Written
 {
     let code = write_code(m, out.len());
     if code != 0 {
-        return Written {
-            code: code,
-            used: 0,
-        };
+        return Written { code, used: 0 };
     }
     let c = carries(m.kind, m.desks);
-    put_head(out, 5 + 4 * c, m.kind, m.desks, m.desk, m.cell);
+    let size = 5 + 4 * c;
+    put_head(out, size, m.kind, m.desks, m.desk, m.cell);
     let clock = m.clock;
     put_numbers(out, m.word, clock, c);
     Written {
         code: 0,
-        used: 7 + 4 * c,
+        used: 2 + size,
     }
 }
 

@@ -13,7 +13,7 @@ use Rattle.frame.specs.Laws.{Writable, writable, headOf, bodyOf, carried
 use Rattle.frame.proofs.write.Statement.{statement}
 use Rattle.frame.proofs.write.Tie as tie
 
-put-both : (m : Message) (l : List ℕ) (c : ℕ) → c ≡ carried (m .kind) (m .desks) → 2 + lengthOf (m .kind) (m .desks) ≡ 7 + 4 * c
+put-both : (m : Message) (l : List ℕ) (c : ℕ) → c ≡ carried (m .kind) (m .desks) → lengthOf (m .kind) (m .desks) ≡ 5 + 4 * c
     → (x y : List ℕ) → x ≡ headOf m (5 + 4 * c) ++ drop 7 l → y ≡ take 7 x ++ bodyOf m c ++ drop (7 + 4 * c) x
     → y ≡ frameOf m ++ drop (2 + lengthOf (m .kind) (m .desks)) l
 unfolding spell bytes
@@ -21,16 +21,16 @@ put-both m l c e size x y p q =
     q
     ∙ ap (λ (z : List ℕ). take 7 z ++ bodyOf m c ++ drop (7 + 4 * c) z) p
     ∙ put-next l (headOf m (5 + 4 * c)) (bodyOf m c) 7 (4 * c) refl
-    ∙ sym (ap₂ (λ (f : List ℕ) (n : ℕ). f ++ drop n l) (frame-split m ∙ ap₂ (λ (n k : ℕ). headOf m n ++ bodyOf m k) counted (sym e)) size)
+    ∙ sym (ap₂ (λ (f : List ℕ) (n : ℕ). f ++ drop n l) (frame-split m ∙ ap₂ (λ (n k : ℕ). headOf m n ++ bodyOf m k) size (sym e)) end)
   where
-    counted : lengthOf (m .kind) (m .desks) ≡ 5 + 4 * c
-    counted = omega arith
+    end : 2 + lengthOf (m .kind) (m .desks) ≡ 7 + 4 * c
+    end = omega arith
 
 told : (c : tie.Else1) → Writable (c .before .before .before .args .m) (length (c .before .before .before .args .out .now))
 told c = writable _ _ (sym (c .before .write-code .ensures) ∙ c .if1 .left)
 
 carries-told : (c : tie.After-carries)
-    → (2 + lengthOf (c .before .before .before .before .args .m .kind) (c .before .before .before .before .args .m .desks) ≡ 7 + 4 * c .carries .result)
+    → (lengthOf (c .before .before .before .before .args .m .kind) (c .before .before .before .before .args .m .desks) ≡ 5 + 4 * c .carries .result)
     × (c .carries .result ≤ 9)
     × (7 + 4 * c .carries .result ≤ length (c .before .before .before .before .args .out .now))
 carries-told c =
@@ -47,11 +47,11 @@ returns c = write-refused _ _ _ (c .before .write-code .ensures) (c .if1 .taken)
 carries-requires : tie.Need-carries-requires
 carries-requires c κs = search needs
 
-mul-put-head : tie.Need-mul-put-head
-mul-put-head c = omega (arith, carries-told (c .before))
+mul-size : tie.Need-mul-size
+mul-size c = omega (arith, carries-told c)
 
-add-put-head : tie.Need-add-put-head
-add-put-head c = omega (arith, carries-told (c .before))
+add-size : tie.Need-add-size
+add-size c = omega (arith, carries-told c)
 
 put-head-requires : tie.Need-put-head-requires
 put-head-requires c κs = omega (arith, carries-told (c .before))
@@ -61,11 +61,8 @@ put-numbers-requires c κs =
     let ready = carries-told (c .before .before .before .before .before .before) in
     (ready .1, omega (arith, ready .2))
 
-mul-t11 : tie.Need-mul-t11
-mul-t11 c = omega (arith, carries-told (c .before .before .before .before .before .before .before .before .before))
-
-add-t6 : tie.Need-add-t6
-add-t6 c = omega (arith, carries-told (c .before .before .before .before .before .before .before .before .before))
+add-t7 : tie.Need-add-t7
+add-t7 c = omega (arith, carries-told (c .before .before .before .before .before .before .before .before .before))
 
 same-length : tie.Need-same-length
 same-length c = search needs
@@ -77,7 +74,7 @@ returns-2 c =
     let l = at .before .before .before .before .args .out .now in
     let size = carries-told at .0 in
     let done = write-accepted m l (sym (at .before .before .write-code .ensures) ∙ at .before .if1 .left) in
-    (sym (done .0 ∙ (λ i. record { code = 0; used = size i })), put-both m l (at .carries .result) (at .carries .ensures) size _ _ (c .before .before .before .before .before .before .before .put-head .ensures) (c .before .before .put-numbers .ensures) ∙ sym (done .1))
+    (sym (done .0 ∙ (λ i. record { code = 0; used = 2 + size i })), put-both m l (at .carries .result) (at .carries .ensures) size _ _ (c .before .before .before .before .before .before .before .put-head .ensures) (c .before .before .put-numbers .ensures) ∙ sym (done .1))
 
 pub write-spec : {M : Type 1} → statement M
 write-spec =
@@ -86,11 +83,10 @@ write-spec =
     write-code-requires
     returns
     carries-requires
-    mul-put-head
-    add-put-head
+    mul-size
+    add-size
     put-head-requires
     put-numbers-requires
-    mul-t11
-    add-t6
+    add-t7
     same-length
     returns-2)
