@@ -11,9 +11,9 @@ use Rattle.lists.specs.Test.{every, some}
 use Rattle.clock.specs.declared.Clock.{Clock}
 use Rattle.clock.specs.Clock.{paired, merged, isBefore, zeroClock}
 use Rattle.desk.specs.declared.Message.{Message}
-use Rattle.frame.specs.declared.Reading.{Reading}
 use Rattle.frame.specs.Bytes.{bytes, followed, spell, numbers}
-use Rattle.frame.specs.Frame.{_given_, _orElse_, carried, lengthOf, rowOf, messageOf, frameOf, faultOf, noMessage, readCode, readWith, readRule}
+use Rattle.frame.specs.Frame.{_given_, _orElse_, carried, lengthOf, rowOf, messageOf, frameOf, faultOf, noMessage, readCode, readWith}
+use Rattle.frame.specs.Frame.{readRule}
 
 -- a clock by its first numbers; the others are 0
 abbrev clock : List ℕ → Clock

@@ -7,7 +7,7 @@ use native.Mathlib.Nat.{pow-suc, add-zero, zero-add, add-suc, suc-add}
 use native.Mathlib.Decide.{decLt}
 use native.Mathlib.Omega.{arith}
 use lib.ListN.{length, getD, take, drop, length-append, length-take, length-drop, take-append-drop, drop-of-length-le, List·getD-eq-default}
-use lib.Seq.{length-take-le, take-at, drop-at, take-add, drop-drop, take-all, take-nil, getD-take, getD-drop}
+use lib.Seq.{length-take-le, take-at, drop-at, take-add, drop-drop, take-nil, getD-take, getD-drop}
 use Rattle.lists.specs.Sum.{sum}
 
 -- a number in w bytes, the last of which counts ones
@@ -102,12 +102,16 @@ spell-next zero (w ∷ ws) (n ∷ ns) h i = append-nil (bytes w n)
 spell-next (suc c) (w ∷ ws) (n ∷ ns) h i =
     rw (spell-next c ws ns (omega arith) (omega arith), append-assoc (bytes w n) (spell (take c ws) ns) (bytes (getD ws c 0) (getD ns c 0)))
 
+-- a list with these bytes in place of the n from place p on
+abbrev pub put : ℕ → List ℕ → ℕ → List ℕ → List ℕ
+put p bs n l = take p l ++ bs ++ drop (p + n) l
+
 pub put-none : (l : List ℕ) (p : ℕ) → l ≡ take p l ++ [] ++ drop p l
 put-none l p = sym (ap (λ (x : List ℕ). x ++ drop p l) (append-nil (take p l)) ∙ take-append-drop p l)
 
 -- a list that starts with `first`, after which more is put: the list that starts with both
 pub put-next : (l first more : List ℕ) (p n : ℕ) → length first ≡ p
-    → take p (first ++ drop p l) ++ more ++ drop (p + n) (first ++ drop p l) ≡ first ++ more ++ drop (p + n) l
+    → put p more n (first ++ drop p l) ≡ first ++ more ++ drop (p + n) l
 put-next l first more p n e =
     ap₂ (λ (x y : List ℕ). x ++ more ++ y) (take-at first (drop p l) p e)
     (sym (drop-drop n p (first ++ drop p l)) ∙ ap (drop n) (drop-at first (drop p l) p e) ∙ drop-drop n p l)
@@ -132,9 +136,12 @@ numbers-spell zero (w ∷ ws) (n ∷ ns) first p e f z =
     rw (append-nil first) (numbers-past (w ∷ ws) (n ∷ ns) first p (omega arith) (f .as-many) (λ k. z k (omega arith)))
 numbers-spell (suc c) (w ∷ ws) (n ∷ ns) first p e f z =
     ap₂ _∷_
-    (rw (drop-at first (bytes w n ++ spell (take c ws) ns) p e, take-at (bytes w n) (spell (take c ws) ns) w (length-bytes w n)) (numeral-bytes w n (f .each 0)))
+    (rw
+    (drop-at first (bytes w n ++ spell (take c ws) ns) p e, take-at (bytes w n) (spell (take c ws) ns) w (length-bytes w n))
+    (numeral-bytes w n (f .each 0)))
     (rw (← append-assoc first (bytes w n) (spell (take c ws) ns))
-    (numbers-spell c ws ns (first ++ bytes w n) (p + w) (length-append first (bytes w n) ∙ omega (arith, length-bytes w n)) rest (λ k h. z (suc k) (omega arith))))
+    (numbers-spell c ws ns (first ++ bytes w n) (p + w) (length-append first (bytes w n) ∙ omega (arith, length-bytes w n)) rest
+    (λ k h. z (suc k) (omega arith))))
   where
     rest : Fitting ws ns
     rest = record { as-many = omega (arith, f .as-many); each = λ k. f .each (suc k) }

@@ -1,21 +1,21 @@
 -- Laws on frames. Proofs of the code and of the round trips use these and not the definitions' text.
 -- Assumes nothing.
-use mathlib.Core.Path.{_≡_, refl, sym, ap, _∙_}
+use mathlib.Core.Path.{_≡_, refl, ap, _∙_}
 use mathlib.Core.Bool.{Bool, true, false, not, _||_}
 use mathlib.Core.List.{List, [], _∷_, _++_}
 use Prim.Native.Nat.{ℕ, zero, suc, _+_, _*_, _<_, _≤_}
 use native.Mathlib.Numerals.{add-one}
 use native.Mathlib.Omega.{arith}
-use lib.Dec.{leb, ltb, eqb}
+use lib.Dec.{ltb, eqb}
 use lib.ListN.{length, getD, take, drop, replicate, length-take, drop-of-length-le}
 use lib.Seq.{drop-cons, take-add, take-take}
-use borrow.Author.Tests.{ltb-true, ltb-false, leb-true, leb-false, eqb-true, lt-ltb, le-ltb, lt-leb, eq-eqb, ne-eqb, not-false}
+use borrow.Author.Tests.{ltb-false, leb-false, eqb-true, lt-ltb, le-ltb, eq-eqb, ne-eqb, not-false}
 use Rattle.lists.specs.Sum.{sum}
 use Rattle.desk.specs.declared.Message.{Message}
-use Rattle.frame.specs.declared.Reading.{Reading}
-use Rattle.frame.specs.declared.Written.{Written}
 use Rattle.frame.specs.Bytes.{numeral, followed, bytes, spell, numbers}
-use Rattle.frame.specs.Frame.{_given_, _orElse_, version, kinds, widths, carried, parts, lengthOf, faultOf, faultIn, messageOf, lengthIn, versionIn, messageIn, readCode, noMessage, readWith, readRule, rowOf, frameOf, wellFormed, writeCode, writtenWith, outputWith, writeRule, outputRule}
+use Rattle.frame.specs.Frame.{_given_, _orElse_, version, kinds, widths, carried, lengthOf, faultOf, faultIn, messageOf, lengthIn}
+use Rattle.frame.specs.Frame.{versionIn, messageIn, readCode, noMessage, readWith, readRule, rowOf, frameOf, wellFormed, writeCode}
+use Rattle.frame.specs.Frame.{writtenWith, outputWith, writeRule, outputRule}
 
 -- ---- bytes at their places
 pub next-byte : (w p q : ℕ) (s : List ℕ) → q ≡ p + 1 → p < length s → take (suc w) (drop p s) ≡ getD s p 0 ∷ take w (drop q s)
@@ -28,7 +28,12 @@ byte-in p s h = rw (next-byte 0 p (p + 1) s refl h) (omega arith)
 pub four-in : (p : ℕ) (s : List ℕ) → p + 4 ≤ length s
     → take 4 (drop p s) ≡ getD s p 0 ∷ getD s (p + 1) 0 ∷ getD s (p + 2) 0 ∷ getD s (p + 3) 0 ∷ []
 four-in p s h =
-    rw (next-byte 3 p (p + 1) s refl (omega arith), next-byte 2 (p + 1) (p + 2) s (omega arith) (omega arith), next-byte 1 (p + 2) (p + 3) s (omega arith) (omega arith), next-byte 0 (p + 3) (p + 4) s (omega arith) (omega arith))
+    rw (
+      next-byte 3 p (p + 1) s refl (omega arith),
+      next-byte 2 (p + 1) (p + 2) s (omega arith) (omega arith),
+      next-byte 1 (p + 2) (p + 3) s (omega arith) (omega arith),
+      next-byte 0 (p + 3) (p + 4) s (omega arith) (omega arith),
+    )
 
 -- a part of the frame is a part of the bytes that it starts
 pub part-take : (p w u : ℕ) (s : List ℕ) → p + w ≤ u → take w (drop p (take u s)) ≡ take w (drop p s)
@@ -43,7 +48,8 @@ framed-byte p u s h i = ap numeral (part-take p 1 u s (omega arith)) ∙ byte-in
 -- of the numbers that a frame carries the one at place k; there are c of them
 module _ (c k : ℕ) (s : List ℕ) where
   pub number-there : k < c → 7 + 4 * c ≤ length s
-      → take 4 (drop (7 + 4 * k) (take (7 + 4 * c) s)) ≡ getD s (7 + 4 * k) 0 ∷ getD s (7 + 4 * k + 1) 0 ∷ getD s (7 + 4 * k + 2) 0 ∷ getD s (7 + 4 * k + 3) 0 ∷ []
+      → take 4 (drop (7 + 4 * k) (take (7 + 4 * c) s))
+      ≡ getD s (7 + 4 * k) 0 ∷ getD s (7 + 4 * k + 1) 0 ∷ getD s (7 + 4 * k + 2) 0 ∷ getD s (7 + 4 * k + 3) 0 ∷ []
   number-there h room = part-take (7 + 4 * k) 4 (7 + 4 * c) s (omega arith) ∙ four-in (7 + 4 * k) s (omega arith)
 
   pub number-past : c ≤ k → numeral (take 4 (drop (7 + 4 * k) (take (7 + 4 * c) s))) ≡ 0
@@ -184,7 +190,8 @@ module _ (s : List ℕ) where
   unfolding readCode _given_ _orElse_
   whole-code w = rw (le-ltb _ _ (w .begun), le-ltb _ _ (w .there), le-ltb _ _ (w .headed), eq-eqb _ _ (w .ours))
 
-pub can-read : (s : List ℕ) → Whole s → faultIn (messageIn s) ≡ 0 → lengthIn s ≡ lengthOf (messageIn s .kind) (messageIn s .desks) → readCode s ≡ 0
+pub can-read : (s : List ℕ) → Whole s → faultIn (messageIn s) ≡ 0
+    → lengthIn s ≡ lengthOf (messageIn s .kind) (messageIn s .desks) → readCode s ≡ 0
 unfolding _given_
 can-read s w e f = whole-code s w ∙ none-first _ e ∙ rw (eq-eqb _ _ f)
 
@@ -223,19 +230,21 @@ module _ (s : List ℕ) where
   read-refused zero e ne = absurd (ne refl)
   read-refused (suc c) e ne = rw (← e)
 
-  pub read-accepted : readCode s ≡ 0 → readRule s ≡ record { code = 0; message = messageIn (take (2 + lengthIn s) s); used = 2 + lengthIn s }
+  pub read-accepted : readCode s ≡ 0
+      → readRule s ≡ record { code = 0; message = messageIn (take (2 + lengthIn s) s); used = 2 + lengthIn s }
   unfolding readRule readWith
   read-accepted e = rw e
 
 -- ---- writing
 -- a frame is its head, and the numbers that it carries
-abbrev pub headOf : Message → ℕ → List ℕ
-headOf m size = spell (take 6 widths) (size ∷ version ∷ m .kind ∷ m .desks ∷ m .desk ∷ m .cell ∷ [])
+abbrev pub headOf : ℕ → ℕ → ℕ → ℕ → ℕ → List ℕ
+headOf size kind desks desk cell = spell (take 6 widths) (size ∷ version ∷ kind ∷ desks ∷ desk ∷ cell ∷ [])
 
 abbrev pub bodyOf : Message → ℕ → List ℕ
 bodyOf m c = spell (take c (drop 6 widths)) (m .word ∷ m .clock .n)
 
-pub frame-split : (m : Message) → frameOf m ≡ headOf m (lengthOf (m .kind) (m .desks)) ++ bodyOf m (carried (m .kind) (m .desks))
+pub frame-split : (m : Message)
+    → frameOf m ≡ headOf (lengthOf (m .kind) (m .desks)) (m .kind) (m .desks) (m .desk) (m .cell) ++ bodyOf m (carried (m .kind) (m .desks))
 unfolding frameOf rowOf spell bytes
 frame-split m = rw (take-add 6 (carried (m .kind) (m .desks)) widths)
 

@@ -1,25 +1,26 @@
 -- Round trips, as theorems about the rules that the contracts of `read` and `write` name, and so about the code.
 -- Assumes nothing.
 use mathlib.Core.Path.{_≡_, refl, sym, ap, ap₂, _∙_}
-use mathlib.Core.Bool.{Bool, true, false, _||_}
+use mathlib.Core.Bool.{true}
 use mathlib.Core.List.{List, [], _∷_, _++_}
 use Prim.Native.Nat.{ℕ, zero, suc, _+_, _*_, _^_, _<_, _≤_}
 use native.Mathlib.Omega.{arith}
 use native.Mathlib.Decide.{decLt}
-use lib.Dec.{ltb, eqb}
-use lib.ListN.{length, getD, take, drop, replicate, length-take, length-append, length-replicate, getD-replicate, List·getD-eq-default}
+use lib.ListN.{length, getD, take, drop, replicate, length-take, length-append, getD-replicate, List·getD-eq-default}
 use lib.Seq.{take-at, take-add, take-take, length-take-le}
-use borrow.Author.Tests.{lt-ltb, le-ltb, eq-eqb, eqb-true}
-use Rattle.lists.specs.Each.{mapAt}
+use borrow.Author.Tests.{lt-ltb, le-ltb, eqb-true}
 use Rattle.lists.specs.Sum.{sum}
-use Rattle.lists.specs.Test.{every, every-mapAt, mapAt-every}
+use Rattle.lists.specs.Test.{every-mapAt, mapAt-every}
 use Rattle.clock.specs.Clock.{number}
 use Rattle.desk.specs.declared.Message.{Message}
 use Rattle.frame.specs.declared.Reading.{Reading}
 use Rattle.frame.specs.declared.Written.{Written}
 use Rattle.frame.specs.Bytes.{numeral, spell, numbers, Bytes, Fitting, length-spell, numbers-spell, spell-numbers, bytes-part}
-use Rattle.frame.specs.Frame.{_given_, _orElse_, version, widths, carried, parts, lengthOf, rowOf, messageOf, faultIn, rowIn, lengthIn, versionIn, messageIn, readCode, readWith, readRule, carriedOrZero, wellFormed, frameOf, writeCode, writtenWith, writeRule, outputRule}
-use Rattle.frame.specs.Laws.{part-take, number-past, carried-le, length-of, Faultless, faultless, Whole, whole-code, can-read, Accepted, accepted, read-accepted, Writable, writable, can-write, write-accepted, none-first}
+use Rattle.frame.specs.Frame.{version, widths, carried, parts, lengthOf, rowOf, messageOf, faultIn, rowIn, lengthIn, versionIn}
+use Rattle.frame.specs.Frame.{messageIn, readCode, readWith, readRule, carriedOrZero, wellFormed, frameOf, writeCode, writtenWith}
+use Rattle.frame.specs.Frame.{writeRule, outputRule}
+use Rattle.frame.specs.Laws.{part-take, number-past, carried-le, length-of, Faultless, faultless, Whole, can-read, Accepted, accepted}
+use Rattle.frame.specs.Laws.{read-accepted, writable, can-write, write-accepted}
 
 -- every number of a message fits its width, as in code it always does
 pub record Sized (m : Message) : Type 0 where
@@ -83,14 +84,18 @@ module _ (m : Message) (ok : Sendable m) where
       each (suc (suc (suc (suc (suc (suc (suc k))))))) =
           elim (decLt k 8) [
             | yes h ↦ (rw (getD-replicate {A = ℕ} 8 k 4 0 h) (ok .sized .numbers-fit k))
-            | no h ↦ (rw (List·getD-eq-default (m .clock .n) 0 {n = k} (omega (arith, ok .sized .eight)), List·getD-eq-default {A = ℕ} (replicate 8 4) 0 {n = k} (omega arith)) (omega arith))
+            | no h ↦ (rw (
+              List·getD-eq-default (m .clock .n) 0 {n = k} (omega (arith, ok .sized .eight)),
+              List·getD-eq-default {A = ℕ} (replicate 8 4) 0 {n = k} (omega arith),
+            ) (omega arith))
           ]
 
   unsent : (j : ℕ) → carried (m .kind) (m .desks) ≤ j → getD (m .word ∷ m .clock .n) j 0 ≡ 0
   unfolding wellFormed
   unsent j h =
       elim (decLt j 9) [
-        | yes i ↦ (not-carried _ _ _ h (every-mapAt (carriedOrZero (carried (m .kind) (m .desks))) (m .word ∷ m .clock .n) 0 (ok .clean) j (omega (arith, ok .sized .eight))))
+        | yes i ↦ (not-carried _ _ _ h (every-mapAt (carriedOrZero (carried (m .kind) (m .desks))) (m .word ∷ m .clock .n) 0
+            (ok .clean) j (omega (arith, ok .sized .eight))))
         | no i ↦ List·getD-eq-default (m .word ∷ m .clock .n) 0 {n = j} (omega (arith, ok .sized .eight))
       ]
 
@@ -112,7 +117,11 @@ module _ (m : Message) (ok : Sendable m) where
   pub frame-length : length (frameOf m) ≡ 2 + lengthOf (m .kind) (m .desks)
   unfolding frameOf rowOf
   frame-length =
-      length-spell (take (parts (m .kind) (m .desks)) widths) (rowOf m) (omega (arith, length-take (parts (m .kind) (m .desks)) widths, row-fits .as-many))
+      length-spell (take (parts (m .kind) (m .desks)) widths) (rowOf m) (omega (
+        arith,
+        length-take (parts (m .kind) (m .desks)) widths,
+        row-fits .as-many,
+      ))
       ∙ counted (m .kind) (m .desks)
 
 -- the numbers of the head do not look past it
@@ -136,7 +145,12 @@ module _ (u : ℕ) (s : List ℕ) (h : 7 ≤ u) where
   fault-kept : faultIn (messageIn (take u s)) ≡ faultIn (messageIn s)
   unfolding numbers messageOf
   fault-kept =
-      rw (ap numeral (part-take 3 1 u s (omega arith)), ap numeral (part-take 4 1 u s (omega arith)), ap numeral (part-take 5 1 u s (omega arith)), ap numeral (part-take 6 1 u s (omega arith)))
+      rw (
+        ap numeral (part-take 3 1 u s (omega arith)),
+        ap numeral (part-take 4 1 u s (omega arith)),
+        ap numeral (part-take 5 1 u s (omega arith)),
+        ap numeral (part-take 6 1 u s (omega arith)),
+      )
 
 -- ---- written, then read
 module _ (m : Message) (ok : Sendable m) where
@@ -180,7 +194,8 @@ module _ (m : Message) (ok : Sendable m) where
     code-back : readCode (frameOf m ++ rest) ≡ 0
     code-back =
         can-read (frameOf m ++ rest) whole
-        (sym (fault-kept u (frameOf m ++ rest) seven) ∙ ap (λ (f : List ℕ). faultIn (messageIn f)) first ∙ ap faultIn message-back ∙ ok .no-fault)
+        (sym (fault-kept u (frameOf m ++ rest) seven) ∙ ap (λ (f : List ℕ). faultIn (messageIn f)) first ∙ ap faultIn message-back
+        ∙ ok .no-fault)
         (length-back ∙ ap₂ lengthOf (sym kind-back) (sym desks-back))
       where
         u : ℕ
@@ -190,10 +205,12 @@ module _ (m : Message) (ok : Sendable m) where
         seven = omega (arith, headed)
 
         kind-back : messageIn (frameOf m ++ rest) .kind ≡ m .kind
-        kind-back = sym (kind-kept u (frameOf m ++ rest) seven) ∙ ap (λ (f : List ℕ). messageIn f .kind) first ∙ ap (λ (x : Message). x .kind) message-back
+        kind-back = sym (kind-kept u (frameOf m ++ rest) seven) ∙ ap (λ (f : List ℕ). messageIn f .kind) first
+            ∙ ap (λ (x : Message). x .kind) message-back
 
         desks-back : messageIn (frameOf m ++ rest) .desks ≡ m .desks
-        desks-back = sym (desks-kept u (frameOf m ++ rest) seven) ∙ ap (λ (f : List ℕ). messageIn f .desks) first ∙ ap (λ (x : Message). x .desks) message-back
+        desks-back = sym (desks-kept u (frameOf m ++ rest) seven) ∙ ap (λ (f : List ℕ). messageIn f .desks) first
+            ∙ ap (λ (x : Message). x .desks) message-back
 
     -- a message's frame, with any bytes after it, is read as that message, and as long as it is
     pub read-frame : readRule (frameOf m ++ rest) ≡ record { code = 0; message = m; used = length (frameOf m) }
@@ -220,7 +237,8 @@ write-then-read m out sized e =
     ∙ (λ i. record { code = 0; message = m; used = (frame-length m ok ∙ sym (ap (λ (w : Written). w .used) (done .0))) i })
 
 -- no two messages share a frame, nor is one's the start of another's
-pub no-two-share : (a b : Message) (after-a after-b : List ℕ) → Sendable a → Sendable b → frameOf a ++ after-a ≡ frameOf b ++ after-b → a ≡ b
+pub no-two-share : (a b : Message) (after-a after-b : List ℕ) → Sendable a → Sendable b
+    → frameOf a ++ after-a ≡ frameOf b ++ after-b → a ≡ b
 no-two-share a b after-a after-b oka okb e =
     ap (λ (r : Reading). r .message) (sym (read-frame a oka after-a) ∙ ap readRule e ∙ read-frame b okb after-b)
 
@@ -273,7 +291,8 @@ module _ (s : List ℕ) (e : readCode s ≡ 0) where
       size : sum (take (parts (there .kind) (there .desks)) widths) ≡ 2 + lengthIn s
       size = counted (there .kind) (there .desks) ∙ ap (λ (n : ℕ). 2 + n) length-there
 
-  unsent-there : (k : ℕ) → k < 9 → carried (there .kind) (there .desks) ≤ k → getD (numbers (replicate 9 4) 7 (take (2 + lengthIn s) s)) k 0 ≡ 0
+  unsent-there : (k : ℕ) → k < 9 → carried (there .kind) (there .desks) ≤ k
+      → getD (numbers (replicate 9 4) 7 (take (2 + lengthIn s) s)) k 0 ≡ 0
   unsent-there k i h =
       four-at 9 7 k (take (2 + lengthIn s) s) i
       ∙ ap (λ (u : ℕ). numeral (take 4 (drop (7 + 4 * k) (take u s)))) ends
@@ -299,12 +318,14 @@ read-then-write s out b told room =
     let e = read-told s told in
     let fits : 2 + lengthIn s ≤ length out = rw (read-accepted s e) at room in
     let same = ap (λ (n : ℕ). 2 + n) (length-there s e) in
-    let done = write-accepted (there s e) out (can-write (there s e) (length out) (no-fault-there s e) (clean-there s e) (omega (arith, same))) in
+    let done = write-accepted (there s e) out (can-write (there s e) (length out) (no-fault-there s e) (clean-there s e) (omega
+    (arith, same))) in
     rw (read-accepted s e)
     (done .0 ∙ (λ i. record { code = 0; used = same i }), done .1 ∙ ap₂ (λ (f : List ℕ) (n : ℕ). f ++ drop n out) (frame-there s e b) same)
 
 -- each message has exactly one frame: whatever bytes are read as it are its frame
-pub one-frame : (s : List ℕ) (m : Message) (used : ℕ) → Bytes s → readRule s ≡ record { code = 0; message = m; used = used } → take used s ≡ frameOf m
+pub one-frame : (s : List ℕ) (m : Message) (used : ℕ) → Bytes s → readRule s ≡ record { code = 0; message = m; used = used }
+    → take used s ≡ frameOf m
 one-frame s m used b r =
     let e = read-told s (ap (λ (x : Reading). x .code) r) in
     let told = sym (read-accepted s e) ∙ r in

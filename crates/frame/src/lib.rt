@@ -9,8 +9,10 @@ ghost use lib.Dec.{ltb};
 ghost use lib.ListN.{length, take, drop};
 ghost use Rattle.lists.specs.Each.{mapAt};
 ghost use Rattle.lists.specs.Test.{every};
-ghost use Rattle.frame.specs.Bytes.{numeral, bytes, spell};
-ghost use Rattle.frame.specs.Frame.{version, widths, carried, faultOf, messageIn, readCode, readRule, carriedOrZero, writeCode, writeRule, outputRule};
+ghost use Rattle.frame.specs.Bytes.{numeral, bytes, spell, put};
+ghost use Rattle.frame.specs.Frame.{widths, carried, faultOf, messageIn, readCode, readRule, carriedOrZero, writeCode};
+ghost use Rattle.frame.specs.Frame.{writeRule, outputRule};
+ghost use Rattle.frame.specs.Laws.{headOf};
 
 // What reading gives: code 0, the message and how many bytes its frame has; or a refusal with an all-zero message and 0 used.
 pub struct Reading {
@@ -220,7 +222,7 @@ fn rest_is_zero(word: u32, clock: Clock, c: usize) -> bool
 
 fn put_head(out: &mut [u8], size: usize, kind: u8, desks: u8, desk: u8, cell: u8)
     requires { ⌜ 7 ≤ length (now out) ⌝ }
-    ensures { λ _. ⌜ now (out .exit) ≡ spell (take 6 widths) (size ∷ version ∷ kind ∷ desks ∷ desk ∷ cell ∷ []) ++ drop 7 (now (out .entry)) ⌝ }
+    ensures { λ _. ⌜ now (out .exit) ≡ headOf size kind desks desk cell ++ drop 7 (now (out .entry)) ⌝ }
 {
     out[0] = (size / 256 % 256) as u8;
     out[1] = (size % 256) as u8;
@@ -234,7 +236,7 @@ fn put_head(out: &mut [u8], size: usize, kind: u8, desks: u8, desk: u8, cell: u8
 // The first c of the word and the clock's numbers, after the head.
 fn put_numbers(out: &mut [u8], word: u32, clock: Clock, c: usize)
     requires { ⌜ (c ≤ 9) × (7 + 4 * c ≤ length (now out)) ⌝ }
-    ensures { λ _. ⌜ now (out .exit) ≡ take 7 (now (out .entry)) ++ spell (take c (drop 6 widths)) (word ∷ clock .n) ++ drop (7 + 4 * c) (now (out .entry)) ⌝ }
+    ensures { λ _. ⌜ now (out .exit) ≡ put 7 (spell (take c (drop 6 widths)) (word ∷ clock .n)) (4 * c) (now (out .entry)) ⌝ }
 {
     if c == 0 {
         return;
@@ -245,7 +247,7 @@ fn put_numbers(out: &mut [u8], word: u32, clock: Clock, c: usize)
 
 fn put_clock(out: &mut [u8], clock: Clock, desks: usize)
     requires { ⌜ (desks ≤ 8) × (11 + 4 * desks ≤ length (now out)) ⌝ }
-    ensures { λ _. ⌜ now (out .exit) ≡ take 11 (now (out .entry)) ++ spell (take desks (drop 7 widths)) (clock .n) ++ drop (11 + 4 * desks) (now (out .entry)) ⌝ }
+    ensures { λ _. ⌜ now (out .exit) ≡ put 11 (spell (take desks (drop 7 widths)) (clock .n)) (4 * desks) (now (out .entry)) ⌝ }
 {
     for k in 0..desks {
         put_number(out, 11 + 4 * k, clock.n[k]);
@@ -254,7 +256,7 @@ fn put_clock(out: &mut [u8], clock: Clock, desks: usize)
 
 fn put_number(out: &mut [u8], at: usize, x: u32)
     requires { ⌜ at + 4 ≤ length (now out) ⌝ }
-    ensures { λ _. ⌜ now (out .exit) ≡ take at (now (out .entry)) ++ bytes 4 x ++ drop (at + 4) (now (out .entry)) ⌝ }
+    ensures { λ _. ⌜ now (out .exit) ≡ put at (bytes 4 x) 4 (now (out .entry)) ⌝ }
 {
     out[at] = (x / 256 / 256 / 256 % 256) as u8;
     out[at + 1] = (x / 256 / 256 % 256) as u8;

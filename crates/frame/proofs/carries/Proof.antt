@@ -1,7 +1,6 @@
 -- `frame::carries` meets its contract: none for a read asked, else the word and a number per desk.
 -- Assumes nothing.
 use borrow.Author.Needs.{needs}
-use mathlib.Core.Path.{_≡_}
 use borrow.Author.Tests.{eq-eqb, ne-eqb}
 use Rattle.frame.specs.Frame.{carried, _given_}
 use Rattle.frame.proofs.carries.Statement.{statement}

@@ -36,11 +36,21 @@ returns-3 c = rw (kind-known (c .before .before .before), count-known (c .before
 
 returns-4 : tie.Need-returns-4
 unfolding faultOf _given_ _orElse_
-returns-4 c = rw (kind-known (c .before .before .before .before), count-known (c .before .before), lt-leb _ _ (c .before .if3 .left), lt-ltb _ _ (c .if4 .taken))
+returns-4 c = rw (
+  kind-known (c .before .before .before .before),
+  count-known (c .before .before),
+  lt-leb _ _ (c .before .if3 .left),
+  lt-ltb _ _ (c .if4 .taken),
+)
 
 returns-5 : tie.Need-returns-5
 unfolding faultOf _given_ _orElse_
-returns-5 c = rw (kind-known (c .before .before .before .before), count-known (c .before .before), lt-leb _ _ (c .before .if3 .left), le-ltb _ _ (c .if4 .left))
+returns-5 c = rw (
+  kind-known (c .before .before .before .before),
+  count-known (c .before .before),
+  lt-leb _ _ (c .before .if3 .left),
+  le-ltb _ _ (c .if4 .left),
+)
 
 pub fault-spec : {M : Type 1} → statement M
 fault-spec =

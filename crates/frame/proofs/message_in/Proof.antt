@@ -5,7 +5,7 @@ use native.Mathlib.Omega.{arith}
 use mathlib.Core.Path.{_≡_, sym}
 use mathlib.Core.List.{[], _∷_}
 use Prim.Native.Nat.{ℕ, _+_, _*_, _<_}
-use lib.ListN.{length, getD, take, drop}
+use lib.ListN.{getD, take, drop}
 use Rattle.frame.specs.Bytes.{numeral, numbers}
 use Rattle.frame.specs.Frame.{messageOf}
 use Rattle.frame.specs.Laws.{framed-byte}
@@ -56,7 +56,8 @@ unfolding numbers messageOf
 returns c =
     let s = c .before .before .before .before .before .before .before .before .before .before .before .before .before .before .args .s .now in
     let u = 7 + 4 * c .before .before .before .before .before .before .before .before .before .before .before .before .before .before .args .c in
-    let byte : (p : ℕ) → p < 7 → getD s p 0 ≡ numeral (take 1 (drop p (take u s))) = λ p h. sym (framed-byte p u s (omega arith) (omega arith)) in
+    let byte : (p : ℕ) → p < 7 → getD s p 0 ≡ numeral (take 1 (drop p (take u s))) = λ p h. sym (framed-byte p u s (omega arith)
+    (omega arith)) in
     λ i.
     record {
       kind = byte 3 (omega arith) i;

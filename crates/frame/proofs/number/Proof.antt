@@ -2,7 +2,7 @@
 -- Assumes nothing.
 use borrow.Author.Needs.{needs}
 use native.Mathlib.Omega.{arith}
-use mathlib.Core.Path.{_≡_, sym, ap, _∙_}
+use mathlib.Core.Path.{sym, ap, _∙_}
 use Rattle.frame.specs.Bytes.{numeral}
 use Rattle.frame.specs.Laws.{number-there, number-past}
 use Rattle.frame.proofs.number.Statement.{statement}

@@ -1,6 +1,5 @@
 -- `frame::outside` meets its contract: below the low end, or above the high one.
 -- Assumes nothing.
-use mathlib.Core.Path.{_≡_}
 use borrow.Author.Tests.{lt-ltb, le-ltb}
 use Rattle.frame.proofs.outside.Statement.{statement}
 use Rattle.frame.proofs.outside.Tie as tie

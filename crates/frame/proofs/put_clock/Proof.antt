@@ -2,13 +2,13 @@
 -- Assumes nothing.
 use borrow.Author.Needs.{needs}
 use native.Mathlib.Omega.{arith}
-use mathlib.Core.Path.{_≡_, refl, sym, ap, ap₂, _∙_}
-use mathlib.Core.List.{List, [], _∷_, _++_, append-assoc}
-use Prim.Native.Nat.{ℕ, suc, _+_, _*_, _-_, _≤_, _<_}
+use mathlib.Core.Path.{_≡_, sym, ap, ap₂, _∙_}
+use mathlib.Core.List.{List, _++_, append-assoc}
+use Prim.Native.Nat.{ℕ, _+_, _*_, _-_, _≤_, _<_}
 use native.Mathlib.Numerals.{add-one}
 use lib.ListN.{length, getD, take, drop, length-append, length-take, length-drop, getD-replicate}
 use lib.Seq.{length-take-le}
-use Rattle.frame.specs.Bytes.{bytes, spell, length-spell, spell-next, put-none, put-next}
+use Rattle.frame.specs.Bytes.{bytes, spell, length-spell, spell-next, put, put-none, put-next}
 use Rattle.frame.specs.Frame.{widths}
 use Rattle.frame.specs.Laws.{sum-fours}
 use Rattle.frame.proofs.put_clock.Statement.{statement}
@@ -16,13 +16,21 @@ use Rattle.frame.proofs.put_clock.Tie as tie
 
 -- the list with k numbers put in after the word
 abbrev withNumbers : List ℕ → ℕ → List ℕ → List ℕ
-withNumbers ns k l = take 11 l ++ spell (take k (drop 7 widths)) ns ++ drop (11 + 4 * k) l
+withNumbers ns k l = put 11 (spell (take k (drop 7 widths)) ns) (4 * k) l
 
 module _ (ns l : List ℕ) (k : ℕ) (long : length ns ≡ 8) where
   front : k ≤ 8 → 11 + 4 * k ≤ length l → length (take 11 l ++ spell (take k (drop 7 widths)) ns) ≡ 11 + 4 * k
   front h room =
       length-append (take 11 l) (spell (take k (drop 7 widths)) ns)
-      ∙ omega (arith, length-take-le 11 l (omega arith), length-spell (take k (drop 7 widths)) ns (omega (arith, length-take k (drop 7 widths))), sum-fours k 8 h)
+      ∙ omega (
+        arith,
+        length-take-le 11 l (omega arith),
+        length-spell (take k (drop 7 widths)) ns (omega (
+          arith,
+          length-take k (drop 7 widths),
+        )),
+        sum-fours k 8 h,
+      )
 
   length-kept : k ≤ 8 → 11 + 4 * k ≤ length l → length (withNumbers ns k l) ≡ length l
   length-kept h room =
@@ -30,11 +38,12 @@ module _ (ns l : List ℕ) (k : ℕ) (long : length ns ≡ 8) where
       ∙ omega (arith, front h room, length-drop (11 + 4 * k) l)
 
   put-turn : k < 8 → 11 + 4 * k + 4 ≤ length l
-      → take (11 + 4 * k) (withNumbers ns k l) ++ bytes 4 (getD ns k 0) ++ drop (11 + 4 * k + 4) (withNumbers ns k l) ≡ withNumbers ns (k + 1) l
+      → put (11 + 4 * k) (bytes 4 (getD ns k 0)) 4 (withNumbers ns k l) ≡ withNumbers ns (k + 1) l
   put-turn h room =
       put-next l (take 11 l ++ spell (take k (drop 7 widths)) ns) (bytes 4 (getD ns k 0)) (11 + 4 * k) 4 (front (omega arith) (omega arith))
       ∙ ap₂ _++_
-      (append-assoc (take 11 l) (spell (take k (drop 7 widths)) ns) (bytes 4 (getD ns k 0)) ∙ ap (λ (x : List ℕ). take 11 l ++ x) (sym next))
+      (append-assoc (take 11 l) (spell (take k (drop 7 widths)) ns) (bytes 4 (getD ns k 0))
+      ∙ ap (λ (x : List ℕ). take 11 l ++ x) (sym next))
       (ap (λ (n : ℕ). drop n l) end)
     where
       end : 11 + 4 * k + 4 ≡ 11 + 4 * (k + 1)
@@ -73,7 +82,11 @@ put-number-requires c κs =
     let at-loop = c .before .before .before in
     let start = at-loop .before .before in
     let long : length (start .args .t2 .n) ≡ 8 = search needs in
-    omega (arith, ap length (at-loop .loop .inv .1), length-kept (start .args .t2 .n) (start .args .out .now) (at-loop .loop .k) long (omega arith) (omega arith))
+    omega (
+      arith,
+      ap length (at-loop .loop .inv .1),
+      length-kept (start .args .t2 .n) (start .args .out .now) (at-loop .loop .k) long (omega arith) (omega arith),
+    )
 
 add-k : tie.Need-add-k Inv-loop μ-loop
 add-k c = search needs
@@ -87,15 +100,19 @@ loop-again c =
     let start = at-loop .before .before in
     let ns = start .args .t2 .n in
     let l = start .args .out .now in
-    let k = at-loop .loop .k in
-    (omega arith, c .before .before .put-number .ensures ∙ ap (λ (x : List ℕ). take (11 + 4 * k) x ++ bytes 4 (getD ns k 0) ++ drop (11 + 4 * k + 4) x) (at-loop .loop .inv .1) ∙ put-turn ns l k (search needs) (omega arith) (omega arith))
+    let k = at-loop .loop .k in (
+      omega arith,
+      c .before .before .put-number .ensures ∙ ap (put (11 + 4 * k) (bytes 4 (getD ns k 0)) 4) (at-loop .loop .inv .1)
+          ∙ put-turn ns l k (search needs) (omega arith) (omega arith),
+    )
 
 same-length : tie.Need-same-length Inv-loop μ-loop
 same-length c =
     let at-loop = c .before in
     let start = at-loop .before .before in
     let long : length (start .args .t2 .n) ≡ 8 = search needs in
-    ap length (at-loop .loop .inv .1) ∙ length-kept (start .args .t2 .n) (start .args .out .now) (at-loop .loop .k) long (omega arith) (omega arith)
+    ap length (at-loop .loop .inv .1)
+    ∙ length-kept (start .args .t2 .n) (start .args .out .now) (at-loop .loop .k) long (omega arith) (omega arith)
 
 returns : tie.Need-returns Inv-loop μ-loop
 returns c =

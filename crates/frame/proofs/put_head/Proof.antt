@@ -2,10 +2,10 @@
 -- Assumes nothing.
 use borrow.Author.Needs.{needs}
 use native.Mathlib.Omega.{arith}
-use mathlib.Core.Path.{_≡_, sym, ap, _∙_}
-use mathlib.Core.List.{List, [], _∷_, _++_}
+use mathlib.Core.Path.{_≡_, _∙_}
+use mathlib.Core.List.{[], _∷_}
 use Prim.Native.Nat.{ℕ, _/_, _%_, _<_}
-use lib.ListN.{drop, length-set}
+use lib.ListN.{length-set}
 use lib.Seq.{sets-eq}
 use Rattle.frame.specs.Bytes.{bytes, spell}
 use Rattle.frame.proofs.put_head.Statement.{statement}

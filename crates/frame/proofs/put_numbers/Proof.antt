@@ -2,24 +2,20 @@
 -- Assumes nothing.
 use borrow.Author.Needs.{needs}
 use native.Mathlib.Omega.{arith}
-use mathlib.Core.Path.{_≡_, refl, sym, ap, ap₂, _∙_}
+use mathlib.Core.Path.{_≡_, ap, ap₂, _∙_}
 use mathlib.Core.List.{List, _∷_, _++_, append-assoc}
 use Prim.Native.Nat.{ℕ, suc, _+_, _*_, _-_, _≤_}
 use lib.ListN.{length, take, drop, length-append}
 use lib.Seq.{length-take-le}
-use Rattle.frame.specs.Bytes.{bytes, spell, length-bytes, put-none, put-next}
+use Rattle.frame.specs.Bytes.{bytes, spell, length-bytes, put, put-none, put-next}
 use Rattle.frame.specs.Frame.{widths}
 use Rattle.frame.proofs.put_numbers.Statement.{statement}
 use Rattle.frame.proofs.put_numbers.Tie as tie
 
--- the list with d numbers of a clock put in after the word
-abbrev withClock : List ℕ → ℕ → List ℕ → List ℕ
-withClock n d l = take 11 l ++ spell (take d (drop 7 widths)) n ++ drop (11 + 4 * d) l
-
 -- the word put in, and d numbers after it: suc d numbers put in
 joined : (l n : List ℕ) (word c d : ℕ) → suc d ≡ c → 11 ≤ length l
-    → withClock n d (take 7 l ++ bytes 4 word ++ drop 11 l)
-    ≡ take 7 l ++ spell (take c (drop 6 widths)) (word ∷ n) ++ drop (7 + 4 * c) l
+    → put 11 (spell (take d (drop 7 widths)) n) (4 * d) (put 7 (bytes 4 word) 4 l) ≡ put 7 (spell (take c (drop 6 widths))
+    (word ∷ n)) (4 * c) l
 unfolding spell
 joined l n word c d e room =
     put-next l (take 7 l ++ bytes 4 word) (spell (take d (drop 7 widths)) n) 11 (4 * d)
@@ -52,7 +48,8 @@ returns-2 c =
     let room : 11 ≤ length (start .args .out .now) = omega arith in
     let one-less : suc (start .args .c - 1) ≡ start .args .c = omega arith in
     c .before .before .put-clock .ensures
-    ∙ ap (withClock (start .args .clock .n) (start .args .c - 1)) (c .before .before .before .before .before .before .put-number .ensures)
+    ∙ ap (put 11 (spell (take (start .args .c - 1) (drop 7 widths)) (start .args .clock .n)) (4 * (start .args .c - 1)))
+    (c .before .before .before .before .before .before .put-number .ensures)
     ∙ joined (start .args .out .now) (start .args .clock .n) (start .args .word) (start .args .c) (start .args .c - 1) one-less room
 
 pub put-numbers-spec : {M : Type 1} → statement M

@@ -28,7 +28,10 @@ ends : (c : tie.After-carries) → 7 + 4 * c .carries .result ≡ 2 + lengthIn (
 ends c =
     let at = c .before .before .before in
     let s = bytes at in
-    let carries : c .carries .result ≡ carried (messageIn s .kind) (messageIn s .desks) = rw (kind-in s (long at), desks-in s (long at)) (c .carries .ensures) in
+    let carries : c .carries .result ≡ carried (messageIn s .kind) (messageIn s .desks) = rw (
+      kind-in s (long at),
+      desks-in s (long at),
+    ) (c .carries .ensures) in
     omega (arith, told at .fitting, carries)
 
 read-code-requires : tie.Need-read-code-requires

@@ -2,15 +2,16 @@
 -- Assumes nothing.
 use borrow.Author.Needs.{needs}
 use native.Mathlib.Omega.{arith}
-use mathlib.Core.Path.{_≡_, sym, ap, _∙_}
+use mathlib.Core.Path.{_≡_, sym, _∙_}
 use mathlib.Core.List.{List}
 use mathlib.Core.Bool.{not}
 use Prim.Native.Nat.{ℕ, _+_, _*_, _≤_}
 use lib.Dec.{eqb}
 use lib.ListN.{length}
 use borrow.Author.Tests.{eq-eqb, ne-eqb}
-use Rattle.frame.specs.Frame.{carried, lengthIn, messageIn, faultIn, lengthOf, readCode, _given_, _orElse_}
-use Rattle.frame.specs.Laws.{Whole, Faultless, faultless, length-in, version-in, kind-in, desks-in, desk-in, cell-in, carried-le, length-of, first-refusal, none-first, too-short, cut-off, no-head, other-version, whole-code}
+use Rattle.frame.specs.Frame.{carried, lengthIn, messageIn, faultIn, lengthOf, readCode, _given_}
+use Rattle.frame.specs.Laws.{Whole, Faultless, faultless, length-in, version-in, kind-in, desks-in, desk-in, cell-in, carried-le}
+use Rattle.frame.specs.Laws.{length-of, first-refusal, none-first, too-short, cut-off, no-head, other-version, whole-code}
 use Rattle.frame.proofs.read_code.Statement.{statement}
 use Rattle.frame.proofs.read_code.Tie as tie
 
@@ -41,19 +42,22 @@ fault-told c =
 
 -- what is left to refuse: a length that is not what kind and desk count call for, and what they call for
 code-left : (c : tie.After-carries) → readCode (bytes (c .before .before))
-    ≡ 36 given not (eqb (lengthIn (bytes (c .before .before))) (lengthOf (messageIn (bytes (c .before .before)) .kind) (messageIn (bytes (c .before .before)) .desks)))
+    ≡ 36 given not (eqb (lengthIn (bytes (c .before .before))) (lengthOf (messageIn (bytes (c .before .before)) .kind) (messageIn
+    (bytes (c .before .before)) .desks)))
 code-left c =
     let told = fault-told (c .before .before) in
     whole-code _ (whole (c .before .before .before .before .before .before .before)) ∙ none-first _ (sym told ∙ c .before .if5 .left)
 
 length-called : (c : tie.After-carries)
-    → (lengthOf (messageIn (bytes (c .before .before)) .kind) (messageIn (bytes (c .before .before)) .desks) ≡ 5 + 4 * c .carries .result) × (c .carries .result ≤ 9)
+    → (lengthOf (messageIn (bytes (c .before .before)) .kind) (messageIn (bytes
+    (c .before .before)) .desks) ≡ 5 + 4 * c .carries .result) × (c .carries .result ≤ 9)
 length-called c =
     let s = bytes (c .before .before) in
     let h = long (c .before .before) in
     let kind = messageIn s .kind in
     let desks = messageIn s .desks in
-    let known : Faultless kind desks (messageIn s .desk) (messageIn s .cell) = faultless _ _ _ _ (sym (fault-told (c .before .before)) ∙ c .before .if5 .left) in
+    let known : Faultless kind desks (messageIn s .desk) (messageIn s .cell) = faultless _ _ _ _ (sym (fault-told
+    (c .before .before)) ∙ c .before .if5 .left) in
     let carries : c .carries .result ≡ carried kind desks = rw (kind-in s h, desks-in s h) (c .carries .ensures) in
     (omega (arith, length-of kind desks (known .desks-to), carries), omega (arith, carried-le kind desks, carries, known .desks-to))
 
@@ -86,7 +90,10 @@ shared-slice-read-if4 c = search needs
 returns-4 : tie.Need-returns-4
 returns-4 c =
     let told = length-told (c .before .before .before .before) in
-    let version = version-in (c .before .before .before .before .before .before .before .before .before .args .s .now) (omega (arith, told)) in
+    let version = version-in (c .before .before .before .before .before .before .before .before .before .args .s .now) (omega (
+      arith,
+      told,
+    )) in
     sym (other-version _ (omega arith) (omega (arith, told)) (omega (arith, told)) (λ e. c .if4 .taken (sym version ∙ e)))
 
 shared-slice-read-kind : tie.Need-shared-slice-read-kind
@@ -107,7 +114,8 @@ fault-requires c κs = search needs
 returns-5 : tie.Need-returns-5
 returns-5 c =
     let told = fault-told (c .before) in
-    told ∙ sym (whole-code _ (whole (c .before .before .before .before .before .before)) ∙ first-refusal _ _ (λ e. c .if5 .taken (told ∙ e)))
+    told ∙ sym (whole-code _ (whole (c .before .before .before .before .before .before))
+    ∙ first-refusal _ _ (λ e. c .if5 .taken (told ∙ e)))
 
 carries-requires : tie.Need-carries-requires
 carries-requires c κs = search needs

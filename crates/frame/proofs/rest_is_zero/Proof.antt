@@ -1,4 +1,5 @@
--- `frame::rest_is_zero` meets its contract. The loop's invariant: the test over all numbers is what the flag says so far, with what is left.
+-- `frame::rest_is_zero` meets its contract. The loop's invariant: the test over all numbers is what the flag says so far, with what is
+-- left.
 -- Assumes nothing.
 use borrow.Author.Needs.{needs}
 use native.Mathlib.Omega.{arith}
@@ -19,7 +20,8 @@ use Rattle.frame.proofs.rest_is_zero.Tie as tie
 abbrev tests : ℕ → ℕ → List ℕ → List Bool
 tests c word n = mapAt (carriedOrZero c) (word ∷ n)
 
-turn : (c word : ℕ) (n : List ℕ) (k : ℕ) (so-far : Bool) → length n ≡ 8 → k < 8 → every (tests c word n) ≡ (so-far && every (drop (k + 1) (tests c word n)))
+turn : (c word : ℕ) (n : List ℕ) (k : ℕ) (so-far : Bool) → length n ≡ 8 → k < 8
+    → every (tests c word n) ≡ (so-far && every (drop (k + 1) (tests c word n)))
     → every (tests c word n) ≡ (so-far && (ltb (k + 1) c || eqb (getD n k 0) 0) && every (drop (k + 1 + 1) (tests c word n)))
 unfolding carriedOrZero
 turn c word n k so-far long h e =
@@ -27,7 +29,8 @@ turn c word n k so-far long h e =
     ∙ rw (getD-mapAt (carriedOrZero c) (word ∷ n) (k + 1) 0 true (omega arith), add-one k)
 
 abbrev Inv-loop : tie.InvT-loop
-Inv-loop word c clock zero₀ k₀ zero k = (k ≤ 8) × (every (tests c word (clock .n)) ≡ (zero && every (drop (k + 1) (tests c word (clock .n)))))
+Inv-loop word c clock zero₀ k₀ zero k = (k ≤ 8) × (every (tests c word (clock .n)) ≡ (zero && every (drop (k + 1) (tests c word
+    (clock .n)))))
 
 abbrev μ-loop : tie.MeasureT-loop
 μ-loop word c clock zero₀ k₀ zero k = 8 - k
@@ -54,8 +57,11 @@ loop-less c = search needs
 loop-again : tie.Need-loop-again Inv-loop μ-loop
 loop-again c =
     let at-loop = c .before .before in
-    let start = at-loop .before in
-    (omega arith, turn (start .args .c) (start .args .word) (start .args .t2 .n) (at-loop .loop .k) (at-loop .loop .zero) (search needs) (omega arith) (at-loop .loop .inv .1))
+    let start = at-loop .before in (
+      omega arith,
+      turn (start .args .c) (start .args .word) (start .args .t2 .n) (at-loop .loop .k) (at-loop .loop .zero)
+          (search needs) (omega arith) (at-loop .loop .inv .1),
+    )
 
 returns : tie.Need-returns Inv-loop μ-loop
 returns c =
@@ -63,7 +69,10 @@ returns c =
     let start = at-loop .before in
     let long : length (start .args .t2 .n) ≡ 8 = search needs in
     let all = tests (start .args .c) (start .args .word) (start .args .t2 .n) in
-    sym (every-end all (at-loop .loop .k + 1) (at-loop .loop .zero) (omega (arith, length-mapAt (carriedOrZero (start .args .c)) (start .args .word ∷ start .args .t2 .n))) (at-loop .loop .inv .1))
+    sym (every-end all (at-loop .loop .k + 1) (at-loop .loop .zero) (omega (
+      arith,
+      length-mapAt (carriedOrZero (start .args .c)) (start .args .word ∷ start .args .t2 .n),
+    )) (at-loop .loop .inv .1))
 
 pub rest-is-zero-spec : {M : Type 1} → statement M
 rest-is-zero-spec =
