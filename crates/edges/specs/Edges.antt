@@ -5,14 +5,14 @@ use mathlib.Core.Path.{_≡_, refl}
 use mathlib.Core.Bool.{true, false}
 use mathlib.Core.List.{List, [], _∷_, _++_}
 use Prim.Native.Nat.{ℕ}
-use lib.ListN.{take, replicate}
+use lib.ListN.{take, replicate, length}
 use Rattle.lists.specs.Each.{mapAt}
 use Rattle.lists.specs.Test.{every, some}
 use Rattle.clock.specs.declared.Clock.{Clock}
 use Rattle.clock.specs.Clock.{number, paired, merged, isBefore, isWithin, raised}
 use Rattle.desk.specs.declared.Reply.{Reply}
-use Rattle.desk.specs.Desk.{isBlank, keeps, waits}
-use Rattle.desk.specs.Rules.{withClock, eventDone, readRule, writeRule}
+use Rattle.desk.specs.Desk.{noMessage, isBlank, keeps, waits}
+use Rattle.desk.specs.Rules.{withClock, eventDone, readRule as readHeld, writeRule}
 use Rattle.desk.specs.Sound.{traySound, rowSound, keeperSound, cellsSound, cellSound, slotSound, slotNames, slotCarries}
 use Rattle.table.specs.declared.Table.{Table}
 use Rattle.table.specs.Choice.{small, event, run, replies}
@@ -20,6 +20,10 @@ use Rattle.table.specs.Rules.{isOwn, isAsked, isAnswered, refusal, outcome, own
 use Rattle.table.specs.SetUp.{keepersRight, freshTray, freshTable, setUpRefusal, answerSetUp, setUpRule}
 use Rattle.table.specs.Sound.{cellZero, slotZero, rowZero, deskSound, tableSound}
 use Rattle.table.specs.Table.{recordOf, putBack}
+use Rattle.lists.specs.Sum.{sum}
+use Rattle.desk.specs.declared.Message.{Message}
+use Rattle.frame.specs.Bytes.{bytes, followed, spell, numbers}
+use Rattle.frame.specs.Frame.{_given_, _orElse_, carried, lengthOf, rowOf, messageOf, frameOf, faultOf, readCode, readWith, readRule}
 
 -- a clock by its first numbers; the others are 0
 abbrev clock : List ℕ → Clock
@@ -31,6 +35,20 @@ smallAt n = putBack small (withClock (recordOf small 0) (clock (n ∷ [])))
 
 abbrev reply : ℕ → ℕ → Reply
 reply code value = record { code = code; value = value; count = 0 }
+
+-- what a desk asks: to read, or to write a word
+abbrev readAsked : ℕ → ℕ → ℕ → Message
+readAsked desks desk cell = record { kind = 1; desks = desks; desk = desk; cell = cell; word = 0; clock = clock [] }
+
+abbrev writeAsked : ℕ → ℕ → ℕ → ℕ → List ℕ → Message
+writeAsked desks desk cell word sent = record { kind = 2; desks = desks; desk = desk; cell = cell; word = word; clock = clock sent }
+
+-- these bytes are the frame of this message: they are written for it, and read as it to the last
+abbrev IsFrame : List ℕ → Message → Type 0
+IsFrame s m = (frameOf m ≡ s) × (readRule s ≡ record { code = 0; message = m; used = length s })
+
+abbrev p10 : List ℕ
+p10 = 0x00 ∷ 0x05 ∷ 0x01 ∷ 0x01 ∷ 0x03 ∷ 0x00 ∷ 0x00 ∷ []
 
 unfoldable pub edges : List (Type 0)
 edges =
@@ -53,6 +71,15 @@ edges =
     × (number (recordOf (eventRule (smallAt 4294967294) (event 2 7) .after) 0 .clock) 0 ≡ 4294967295))
     -- P9 4,294,967,295: 16
     ∷ (eventRule (smallAt 4294967295) (event 2 7) .reply ≡ reply 16 0)
+    -- P10 read asked, 3 desks, desk 0, cell 0
+    ∷ IsFrame p10 (readAsked 3 0 0)
+    -- P11 write asked, 3 desks, desk 2, cell 1, word 500, clock (0,0,2)
+    ∷ IsFrame
+    (0x00 ∷ 0x15 ∷ 0x01 ∷ 0x02 ∷ 0x03 ∷ 0x02 ∷ 0x01 ∷ 0x00 ∷ 0x00 ∷ 0x01 ∷ 0xF4
+    ∷ 0x00 ∷ 0x00 ∷ 0x00 ∷ 0x00 ∷ 0x00 ∷ 0x00 ∷ 0x00 ∷ 0x00 ∷ 0x00 ∷ 0x00 ∷ 0x00 ∷ 0x02 ∷ [])
+    (writeAsked 3 2 1 500 (0 ∷ 0 ∷ 2 ∷ []))
+    -- P12 P10 without its last byte: 30
+    ∷ (readRule (take 6 p10) ≡ record { code = 30; message = noMessage; used = 0 })
     ∷ []
 
 -- every statement of a list holds
@@ -61,8 +88,10 @@ Hold [] = Unit {0}
 Hold (p ∷ ps) = p × Hold ps
 
 pub edges-hold : Hold edges
-unfolding edges Hold merged isBefore paired every some mapAt isWithin raised
+unfolding edges Hold merged isBefore paired every some sum mapAt isWithin raised
     setUpRule answerSetUp setUpRefusal keepersRight freshTable freshTray run replies
-    eventRule unless refusal isOwn isAsked isAnswered done ownRule outcome eventDone readRule writeRule isBlank keeps waits recordOf putBack
+    eventRule unless refusal isOwn isAsked isAnswered done ownRule outcome eventDone readHeld writeRule isBlank keeps waits recordOf putBack
     tableSound deskSound rowSound rowZero traySound keeperSound cellsSound cellSound slotSound slotNames slotCarries cellZero slotZero
-edges-hold = (refl, (refl, (refl, ((refl, refl), (refl, (refl, (refl, ((refl, refl), (refl, tt)))))))))
+    bytes followed spell numbers _given_ _orElse_ carried lengthOf rowOf messageOf frameOf faultOf readCode readWith readRule
+edges-hold =
+    (refl, (refl, (refl, ((refl, refl), (refl, (refl, (refl, ((refl, refl), (refl, ((refl, refl), ((refl, refl), (refl, tt))))))))))))
