@@ -1,0 +1,17 @@
+-- `lent::cwmorlais_desk_serve` meets its contract: the shared walk, at a request and `serveRule`.
+-- Assumes nothing.
+use Rattle.desk.specs.Rules.{serveRule}
+use Rattle.desk.proofs.Message as X
+use Rattle.desk.proofs.Message.Laws as X′
+use Rattle.desk.proofs.Record.serve.Met as met
+use Rattle.desk.proofs.Record.serve.Symbol as step
+use Rattle.lent.proofs.Walk.{lent-spec}
+use Rattle.lent.proofs.cwmorlais_desk_serve.Code as code
+use Rattle.lent.proofs.cwmorlais_desk_serve.Key as lent
+use Rattle.lent.proofs.cwmorlais_desk_serve.Statement.{statement}
+
+pub cwmorlais-desk-serve-spec : {M : Type 1} → statement M
+unfolding code.routine
+cwmorlais-desk-serve-spec 𝓤 H 𝓜 𝓖 𝓡 =
+    lent-spec X.the-type X′.the-laws X′.the-plain serveRule 𝓤 H 𝓜 𝓖 𝓡 code.env lent.name step.name (code.unfolded 𝓤 H 𝓜 𝓡)
+    step.routine code.calls-desk·Record·serve (met.met 𝓤 H 𝓜 𝓖 𝓡)
