@@ -16,9 +16,9 @@ abbrev pub answerOf : Step → Answer
 answerOf s = record { reply = s .reply; message = s .message }
 
 -- any two answers and records that meet the promise are equal
-pub no-choice : {s : Step} {r r′ : Answer} {v v′ : Record} → (r ≡ answerOf s) × (v ≡ s .after) → (r′ ≡ answerOf s) × (v′ ≡ s .after)
+pub no-choice : (s : Step) {r r′ : Answer} {v v′ : Record} → (r ≡ answerOf s) × (v ≡ s .after) → (r′ ≡ answerOf s) × (v′ ≡ s .after)
     → (r ≡ r′) × (v ≡ v′)
-no-choice p q = (p .0 ∙ sym (q .0), p .1 ∙ sym (q .1))
+no-choice s p q = (p .0 ∙ sym (q .0), p .1 ∙ sym (q .1))
 
 -- ---- "A refusal changes nothing in the record and gives an all-zero message."
 abbrev pub refusal : ℕ → Answer
