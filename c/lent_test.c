@@ -74,12 +74,13 @@ static bool same_clock(const cwmorlais_clock *a, const cwmorlais_clock *b) {
 }
 
 static bool same_record(const cwmorlais_record *a, const cwmorlais_record *b) {
+    const cwmorlais_slot *s = &a->slot, *t = &b->slot;
     bool same = a->tray.desks == b->tray.desks && a->tray.cells == b->tray.cells && a->desk == b->desk && same_clock(&a->clock, &b->clock)
-        && a->slot.kind == b->slot.kind && a->slot.cell == b->slot.cell && a->slot.word == b->slot.word && same_clock(&a->slot.clock, &b->slot.clock)
-        && a->served == b->served;
+        && s->kind == t->kind && s->cell == t->cell && s->word == t->word && same_clock(&s->clock, &t->clock) && a->served == b->served;
     for (int c = 0; c < 32; c++) {
         const cwmorlais_cell *x = &a->row[c], *y = &b->row[c];
-        same = same && a->tray.keepers[c] == b->tray.keepers[c] && x->held == y->held && x->word == y->word && same_clock(&x->stamp, &y->stamp);
+        same = same && a->tray.keepers[c] == b->tray.keepers[c];
+        same = same && x->held == y->held && x->word == y->word && same_clock(&x->stamp, &y->stamp);
     }
     return same;
 }
@@ -158,13 +159,15 @@ static void play_refusals(void) {
     refuse(13, cwmorlais_desk_bring(&v, none), &was, &v);
     refuse(15, cwmorlais_desk_serve(&v, none), &was, &v);
 
-    cwmorlais_answer asked = cwmorlais_desk_event(&v, (cwmorlais_event){.kind = READ, .desk = 99, .cell = 1});
-    EXPECT(asked.reply.code == 1 && asked.message.kind == 1 && asked.message.desks == 2 && asked.message.desk == 0 && asked.message.cell == 1);
+    /* A read of a cell that is not held is asked for, whatever desk the event names. */
+    cwmorlais_answer a = cwmorlais_desk_event(&v, (cwmorlais_event){.kind = READ, .desk = 99, .cell = 1});
+    EXPECT(a.reply.code == 1 && a.message.kind == 1 && a.message.desks == 2 && a.message.desk == 0 && a.message.cell == 1);
     EXPECT(v.slot.kind == 1 && v.slot.cell == 1 && !v.served);
     was = v;
     refuse(12, cwmorlais_desk_event(&v, (cwmorlais_event){.kind = READ}), &was, &v);
-    refuse(15, cwmorlais_desk_bring(&v, asked.message), &was, &v);
+    refuse(15, cwmorlais_desk_bring(&v, a.message), &was, &v);
 
+    /* A cell past the count has a word: not sound. */
     v.row[5].word = 1;
     was = v;
     refuse(9, cwmorlais_desk_event(&v, (cwmorlais_event){.kind = READ}), &was, &v);

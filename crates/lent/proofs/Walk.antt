@@ -1,6 +1,7 @@
--- The walk that the lent functions share: the record is loaded, a step is called by value, its record is stored, and its reply and message are
--- returned. It is done once: for any plain type X of what is passed beside the record, any rule that the step is known to meet, and any contract
--- whose `ensures` holds of the rule's answer and record. `lent-spec`, at the end, is all that a function's own proof cites. Assumes nothing.
+-- The walk that the lent functions share: the record is loaded, a step is called by value, its record is stored, and its reply and message
+-- are returned. It is done once: for any plain type X of what is passed beside the record, any rule that the step is known to meet, and any
+-- contract whose `ensures` holds of the rule's answer and record. `lent-spec`, at the end, is all that a function's own proof cites.
+-- Assumes nothing.
 use mathlib.Core.Path.{_≡_, refl, sym, ap, subst}
 use Prim.Native.Nat.{ℕ}
 use mathlib.Core.List.{[], _∷_, List}
@@ -17,8 +18,8 @@ use ghost.Atoms.{Atoms, sem}
 use contract.Lifetimes.{Lfts}
 use contract.Monad.{fact}
 use contract.Running.{GhostRules, Running, givenOf, tables, tablesOf}
-use types.Kit.{Given, Item, prop, Step as Move, step as moves, ‵, raw, some, later, _⊛_, _$_, _∵_, !, qed, by, move, keep, drop, use1, use2, split, join, pick, rewrite, fsplit, fsplit3, fjoin}
-use types.Kit.{fjoin3, feqI, suffices, frame, await, done}
+use types.Kit.{Given, ‵, raw, some, later, _⊛_, _$_, _∵_, !, qed, by, done, move, keep, drop}
+use types.Kit.{use1, use2, split, join, pick, rewrite, fsplit, fsplit3, fjoin, fjoin3, feqI, suffices, frame, await}
 use types.Run.{look, look-raw, init, store-raw, forget, stop, hop, fld, from, load, of-opd, and-then, no-more, assigns, land, returns}
 use types.Run.{enter, alloc1, alloc0, params1, pass1, pass0, free1, free0}
 use types.Part.{agg, whole, sub, look-in}
@@ -65,13 +66,13 @@ module _ (s : Step) (vs : List Val) (is : Is S.the-row s vs) where
   is-after = LL.owed S.the-type S′.the-laws s vs is .1 .1 .0
 
   is-answer : Is B.the-row (answerOf s) (answerVals s)
-  is-answer = let parts = LL.owed S.the-type S′.the-laws s vs is in LL.owes B.the-type B′.the-laws (answerOf s) (parts .0, (parts .1 .0, tt))
+  is-answer =
+      let parts = LL.owed S.the-type S′.the-laws s vs is in
+      LL.owes B.the-type B′.the-laws (answerOf s) (parts .0, (parts .1 .0, tt))
 
--- a goal P ∗ Q, where Q is had for nothing: P is left
-beside : {M : Type 1} {𝓤 : URA M} {H : Heap 𝓤} {A : Atoms 𝓤} {K : Type 0} {W : Given 𝓤 H A} {Γ : List (Item 𝓤)} → K → {P Q : SProp 𝓤} → ent 𝓤 (emp 𝓤) Q
-    → Move K W Γ (prop P) Γ (prop (sep 𝓤 P Q))
-beside {𝓤 = 𝓤} t {P} {Q} free =
-    moves (λ s. record { prf = via 𝓤 P (s .prf) (via 𝓤 (sep 𝓤 (emp 𝓤) P) (emp∗ 𝓤 P) (via 𝓤 (sep 𝓤 Q P) (monoL 𝓤 P free) (comm∗ 𝓤 Q P))) })
+-- what is had for nothing may stand beside anything
+beside : {M : Type 1} (𝓤 : URA M) (P : SProp 𝓤) {Q : SProp 𝓤} → ent 𝓤 (emp 𝓤) Q → ent 𝓤 P (sep 𝓤 P Q)
+beside 𝓤 P {Q} free = via 𝓤 (sep 𝓤 (emp 𝓤) P) (emp∗ 𝓤 P) (via 𝓤 (sep 𝓤 Q P) (monoL 𝓤 P free) (comm∗ 𝓤 Q P))
 
 -- ---- the code, and the signatures of the step and of the lent function
 module _ (X : Declared) where
@@ -153,17 +154,22 @@ module _ (X : Declared) (L : LL.Laws X) (P : Plains (fields X)) (rule : Record �
         abbrev to-step : StepMeets .Ghost
         to-step = ((tt, tt, tt, (v, (x, tt)), (recordVals v, (LL.vals X L x, tt))), tt)
 
-        asks : ent 𝓤 (sep 𝓤 (sem 𝓤 H A (R.the-row .own v (recordVals v))) (sem 𝓤 H A (owns (arg X ∷ []) (x, tt) (LL.vals X L x, tt)))) (StepMeets .pre to-step)
+        asks : ent 𝓤 (sep 𝓤 (sem 𝓤 H A (R.the-row .own v (recordVals v))) (sem 𝓤 H A (owns (arg X ∷ []) (x, tt) (LL.vals X L x, tt))))
+            (StepMeets .pre to-step)
         asks =
             qed W (‵ (R.the-row .own v (recordVals v)) ∷ ‵ (owns (arg X ∷ []) (x, tt) (LL.vals X L x, tt)) ∷ []) ∵
             fjoin ! $ nothing ! $ join ! $ nothing ! $ move ! (1 ∷ 0 ∷ []) $ join ! $ done !
 
-        ensures : (s : Step) → ent 𝓤 (ensured 𝓤 H A (stepEnded X) stepClauses tt (v, (x, tt)) tt s) (fact 𝓤 (s ≡ rule v x))
-        ensures s = exE 𝓤 _ (λ ws. snd∗ 𝓤 (sem 𝓤 H A (lasts (stepEnded X) tt (v, (x, tt)) ws)) (fact 𝓤 (s ≡ rule v x)))
+        says : (s : Step) → ent 𝓤 (ensured 𝓤 H A (stepEnded X) stepClauses tt (v, (x, tt)) tt s) (fact 𝓤 (s ≡ rule v x))
+        says s = exE 𝓤 _ (λ ws. snd∗ 𝓤 (sem 𝓤 H A (lasts (stepEnded X) tt (v, (x, tt)) ws)) (fact 𝓤 (s ≡ rule v x)))
 
         -- ---- the exit, with the step's record behind the reference
         abbrev Post : c (κ, tt) args .ghost → Val → SProp 𝓤
         Post g = walkOf 𝓤 H A (lentEnded X) (stayed X) c .post (((κ, tt), (q, tt), tt, args, at), g)
+
+        -- the contract's `ensures`, at the answer and the record of the step s
+        abbrev ensured-of : c (κ, tt) args .ghost → Step → Type 1
+        ensured-of g s = ent 𝓤 (emp 𝓤) (c (κ, tt) args .ensures g (answerOf s) (atExit (lentEnded X) (κ, tt) args (s .after, (tt, tt))))
 
         exits : (g : c (κ, tt) args .ghost) (s : Step) (w : Val) → Is S.the-row s (w ∷ []) → s ≡ rule v x
             → ent 𝓤 (sep 𝓤 (A .obs γ (R.the-row .coded .code (s .after))) (sep 𝓤 (A .bor κ (Body (mem R.the-row) b o γ)) (A .lft κ q)))
@@ -172,15 +178,16 @@ module _ (X : Declared) (L : LL.Laws X) (P : Plains (fields X)) (rule : Record �
             qed W (‵ (fobs γ (R.the-row .coded .code (s .after))) ∷ ‵ (fbor κ (Body (mem R.the-row) b o γ)) ∷ ‵ (flft κ q) ∷ []) ∵
             suffices ! _ (ends-at 𝓤 H A (lentEnded X) (stayed X) c W (((κ, tt), (q, tt), tt, args, at), g)
             (LL.val B.the-type B′.the-laws (answerOf s)) (answerOf s) (s .after, (tt, tt)) (tt, (tt, tt))) $
-            beside ! (subst (λ t. ent 𝓤 (emp 𝓤) (c (κ, tt) args .ensures g (answerOf t) (atExit (lentEnded X) (κ, tt) args (t .after, (tt, tt))))) (sym e)
-            (holds (κ, tt) args g)) $
+            suffices ! _ (beside 𝓤 _ (subst (ensured-of g) (sym e) (holds (κ, tt) args g))) $
             nothing ! $ move ! (3 ∷ 0 ∷ []) $ join ! $ frame ! $ feqI ! (List Val) (vptr b o ∷ []) (vptr b o ∷ []) refl $ fjoin3 ! $
             nothing ! $ owned ! (arg X) (Is (arg X)) (LL.makes X P 𝓤 H A) x _ is-x $ fjoin ! $ move ! (1 ∷ 0 ∷ []) $ fjoin ! $
-            owned ! B.the-row (Is B.the-row) (LL.makes B.the-type B′.the-plain 𝓤 H A) (answerOf s) _ (is-answer s _ is) $ move ! (1 ∷ 0 ∷ []) $ done !
+            owned ! B.the-row (Is B.the-row) (LL.makes B.the-type B′.the-plain 𝓤 H A) (answerOf s) _ (is-answer s _ is) $
+            move ! (1 ∷ 0 ∷ []) $ done !
 
-        module _ (C : Calls 𝓤 H) (Λ : Loops 𝓤 H) (fm : FmC 𝓤 H (W .laws) C) (step : Name) (known : Triple 𝓤 (C step) StepMeets) (g : c (κ, tt) args .ghost) where
-          walk : ent 𝓤 (onEntry 𝓤 H A (lentEnded X .signature) (κ, tt) (q, tt) args at) (WpFn 𝓤 H C Λ (lentFn X step) (vptr b o ∷ LL.val X L x ∷ []) (Post g))
-          walk =
+        module _ (C : Calls 𝓤 H) (Λ : Loops 𝓤 H) (fm : FmC 𝓤 H (W .laws) C) (step : Name) (known : Triple 𝓤 (C step) StepMeets) where
+          walk : (g : c (κ, tt) args .ghost) → ent 𝓤 (onEntry 𝓤 H A (lentEnded X .signature) (κ, tt) (q, tt) args at)
+              (WpFn 𝓤 H C Λ (lentFn X step) (vptr b o ∷ LL.val X L x ∷ []) (Post g))
+          walk g =
               qed W ((‵ (flft κ q) ⊛ ‵ ftrue) ∷ ‵ (owns (MutRef (named 0) κ R.the-row ∷ arg X ∷ []) args at) ∷ []) ∵
               split ! $ move ! (2 ∷ []) $ fsplit ! $ fsplit3 ! $ drop ! $ move ! (0 ∷ 1 ∷ 3 ∷ 2 ∷ []) $
               -- [obs; the borrow; the token; what x owns; true]
@@ -191,32 +198,35 @@ module _ (X : Declared) (L : LL.Laws X) (P : Plains (fields X)) (rule : Record �
               move ! (10 ∷ 11 ∷ 12 ∷ []) $ opens ! tt R.the-row {h = v} b o (λ vs.
               spelt ! R.the-row (Is R.the-row) (shows 𝓤 H A R.the-row) recordVals (LL.tells R.the-type R′.the-laws) fullShare v vs b o $
               move ! (1 ∷ []) $ peeks ! R.the-row (Is R.the-row) (shows 𝓤 H A R.the-row) v (recordVals v) (λ is-v.
-              -- [what the record owns; its cell; the open borrow; obs; auth; room for _4; …; room for _3; …; _2; …; _1; …; room for _0; …; what x owns; true]
+              -- [what the record owns; its cell; the open borrow; obs; auth; _4's room; …; _3's; …; _2; …; _1; …; _0's; …; x's; true]
               assigns ! (of-opd ! (load ! (from ! (hop ! (look ! 11 refl) (stop !))) (look-raw ! 1 refl))) (from ! (stop !))
               (init ! 5 refl (LL.lawful R.the-type R′.the-laws 𝓤 H A W .typed v _ is-v .0)) $
               -- the step is called, and is what the rule says
               move ! (0 ∷ 15 ∷ []) $ use2 W (raw (StepMeets .pre to-step)) asks $
-              calls-at ! fm StepMeets known to-step
-              (and-then ! (load ! (from ! (stop !)) (look ! 5 refl)) (and-then ! (load ! (from ! (stop !)) (look ! 9 refl)) (no-more !))) (λ w.
+              calls-at ! fm StepMeets known to-step (and-then ! (load ! (from ! (stop !)) (look ! 5 refl))
+              (and-then ! (load ! (from ! (stop !)) (look ! 9 refl)) (no-more !))) (λ w.
               use1 W (later (some (λ (s : Step).
               (‵ ftrue ⊛ ‵ (S.the-row .own s (w ∷ []))) ⊛ raw (ensured 𝓤 H A (stepEnded X) stepClauses tt (v, (x, tt)) tt s)))) (id⊢ 𝓤 _) $
-              await ! tt $ pick ! (λ s. split ! $ move ! (1 ∷ []) $ use1 W (raw (fact 𝓤 (s ≡ rule v x))) (ensures s) $ heard ! (s ≡ rule v x) (λ e.
+              await ! tt $ pick ! (λ s. split ! $ move ! (1 ∷ []) $
+              use1 W (raw (fact 𝓤 (s ≡ rule v x))) (says s) $ heard ! (s ≡ rule v x) (λ e.
               split ! $ drop ! $ facts ! S.the-row (Is S.the-row) (shows 𝓤 H A S.the-row) s (w ∷ []) (λ is.
-              -- [the record's cell; the open borrow; obs; auth; _4; …; room for _3; …; _2; …; _1; …; room for _0; …; true]
+              -- [the record's cell; the open borrow; obs; auth; _4; …; _3's room; …; _2; …; _1; …; _0's; …; true]
               land ! (from ! (stop !)) (init ! 6 refl (LL.lawful S.the-type S′.the-laws 𝓤 H A W .typed s _ is .0)) $
               rewrite ! 6 (λ (u : Val). ‵ (fat fullShare S′.mir l₃ 0 u)) (ap only (LL.tells S.the-type S′.the-laws s (w ∷ []) is)) refl $
               -- its record is stored, its reply and message are the answer, and the borrow is closed
-              assigns ! (of-opd ! (load ! (from ! (fld ! refl (stop !))) (look-in ! 6 (sub ! 2 refl (whole !))))) (from ! (hop ! (look ! 10 refl) (stop !)))
+              assigns ! (of-opd ! (load ! (from ! (fld ! refl (stop !))) (look-in ! 6 (sub ! 2 refl (whole !)))))
+              (from ! (hop ! (look ! 10 refl) (stop !)))
               (store-raw ! 0 refl (LL.lawful R.the-type R′.the-laws 𝓤 H A W .typed (s .after) _ (is-after s _ is) .0)) $
               assigns ! (agg ! (and-then ! (load ! (from ! (fld ! refl (stop !))) (look-in ! 6 (sub ! 0 refl (whole !))))
               (and-then ! (load ! (from ! (fld ! refl (stop !))) (look-in ! 6 (sub ! 1 refl (whole !)))) (no-more !)))) (from ! (stop !))
               (init ! 12 refl (LL.lawful B.the-type B′.the-laws 𝓤 H A W .typed (answerOf s) _ (is-answer s _ is) .0)) $
-              owned ! R.the-row (Is R.the-row) (LL.makes R.the-type R′.the-plain 𝓤 H A) (s .after) _ (is-after s _ is) $ move ! (1 ∷ 0 ∷ []) $
-              closes ! tt R.the-row (s .after) (recordVals (s .after)) b o $
+              owned ! R.the-row (Is R.the-row) (LL.makes R.the-type R′.the-plain 𝓤 H A) (s .after) _ (is-after s _ is) $
+              move ! (1 ∷ 0 ∷ []) $ closes ! tt R.the-row (s .after) (recordVals (s .after)) b o $
               -- [obs; the borrow; the token; _4; …; _3; …; _2; …; _1; …; _0; …; true]
               returns ! (look ! 11 refl) $ forget ! 3 refl $ forget ! 5 refl $ forget ! 7 refl $ forget ! 9 refl $ forget ! 11 refl $
-              move ! (11 ∷ 12 ∷ []) $ free1 ! $ move ! (9 ∷ 10 ∷ []) $ free1 ! $ move ! (7 ∷ 8 ∷ []) $ free1 ! $ move ! (5 ∷ 6 ∷ []) $ free1 ! $
-              move ! (3 ∷ 4 ∷ []) $ free1 ! $ free0 ! $ keep ! (0 ∷ 1 ∷ 2 ∷ []) $ by ! (exits g s w is e))))))))))))
+              move ! (11 ∷ 12 ∷ []) $ free1 ! $ move ! (9 ∷ 10 ∷ []) $ free1 ! $ move ! (7 ∷ 8 ∷ []) $ free1 ! $
+              move ! (5 ∷ 6 ∷ []) $ free1 ! $ move ! (3 ∷ 4 ∷ []) $ free1 ! $ free0 ! $
+              keep ! (0 ∷ 1 ∷ 2 ∷ []) $ by ! (exits g s w is e))))))))))))
 
       -- ---- from the walk to the contract
       goes : AllGo 𝓤 H A W 1 (lentEnded X .signature .params) (lentEnded X .kept) (stayed X)
