@@ -3,6 +3,7 @@ ghost use mathlib.Core.Path.{_≡_};
 ghost use Prim.Native.Nat.{max};
 ghost use Rattle.clock.specs.Clock.{zeroClock, merged, isBefore, isWithin};
 
+#[repr(C)]
 pub struct Clock {
     pub n: [u32; 8],
 }

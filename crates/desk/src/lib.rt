@@ -12,6 +12,7 @@ mod serving;
 pub mod sound;
 
 // What a desk has of one cell. A cell that is not held has word 0 and the zero stamp.
+#[repr(C)]
 pub struct Cell {
     pub held: bool,
     pub word: u32,
@@ -19,6 +20,7 @@ pub struct Cell {
 }
 
 // What a desk waits for: kind 0 nothing, 1 read asked, 2 write asked (word, sent clock), 3 read answered, 4 write answered (word, stamp).
+#[repr(C)]
 pub struct Slot {
     pub kind: u8,
     pub cell: u8,
@@ -27,6 +29,7 @@ pub struct Slot {
 }
 
 // The tray as it was set up: how many desks and cells, and each cell's keeper.
+#[repr(C)]
 pub struct Tray {
     pub desks: u8,
     pub cells: u8,
@@ -34,6 +37,7 @@ pub struct Tray {
 }
 
 // A desk's record, which its program lends it: its row of the table, with the tray and the desk's number.
+#[repr(C)]
 pub struct Record {
     pub tray: Tray,
     pub desk: u8,
@@ -44,6 +48,7 @@ pub struct Record {
 }
 
 // What somebody wants of a desk: kind 1 read, 2 write, 3 take, 4 bring, 5 drop. Any number may stand anywhere.
+#[repr(C)]
 pub struct Event {
     pub kind: u32,
     pub desk: u32,
@@ -51,6 +56,7 @@ pub struct Event {
     pub word: u32,
 }
 
+#[repr(C)]
 pub struct Reply {
     pub code: u32,
     pub value: u32,
@@ -58,6 +64,7 @@ pub struct Reply {
 }
 
 // What desks send each other. The kinds are those of a full slot; the desk is the one that asked.
+#[repr(C)]
 pub struct Message {
     pub kind: u8,
     pub desks: u8,
