@@ -65,10 +65,10 @@ impl Table {
     pub fn set_up(desks: u32, cells: u32, keepers: [u32; 32]) -> SetUp
         ensures { λ r. ⌜ r ≡ setUpRule desks cells keepers ⌝ }
     {
-        let refusal = setting::refusal(desks, cells, keepers);
-        if refusal != 0 {
+        let code = setting::refusal(desks, cells, keepers);
+        if code != 0 {
             return SetUp {
-                code: refusal,
+                code,
                 table: NO_TABLE,
             };
         }

@@ -6,7 +6,7 @@ ghost use lib.Dec.{eqb};
 ghost use Rattle.clock.specs.Clock.{number};
 ghost use Rattle.desk.specs.Desk.{keeps as keeps·def};
 ghost use Rattle.table.specs.Rules.{isAsked, isAnswered, messageOf, ownRule, takeRule, bringRule};
-ghost use Rattle.table.specs.Rules.{refusal as refusal·def};
+ghost use Rattle.table.specs.Rules.{outcome as outcome·def, refusal as refusal·def};
 ghost use Rattle.table.specs.Table.{slotOf, keeperOf, recordOf};
 use crate::Outcome;
 use crate::Table;
@@ -17,6 +17,7 @@ use clock::Clock;
 use desk::Event;
 use desk::Message;
 use desk::Slot;
+use desk::Step;
 use desk::Tray;
 use desk::bring_done;
 use desk::event_done;
@@ -96,15 +97,22 @@ pub(crate) fn refusal(t: Table, e: Event) -> u32
     0
 }
 
+// What a desk's step makes of the table.
+fn outcome(t: Table, s: Step) -> Outcome
+    requires { ⌜ s .after .desk < 8 ⌝ }
+    ensures { λ r. ⌜ r ≡ outcome·def t s ⌝ }
+{
+    let reply = s.reply;
+    let after = put_back(t, s.after);
+    Outcome { reply, after }
+}
+
 pub(crate) fn own(t: Table, e: Event) -> Outcome
     requires { ⌜ (e .desk < 8) × (e .cell < 32) × (e .kind ≡ 2 → number (recordOf t (e .desk) .clock) (e .desk) ≡ 4294967295 → ⊥) ⌝ }
     ensures { λ r. ⌜ r ≡ ownRule t e ⌝ }
 {
     let desk = e.desk as u8;
-    let step = event_done(record_of(t, desk), e);
-    let reply = step.reply;
-    let after = put_back(t, step.after);
-    Outcome { reply, after }
+    outcome(t, event_done(record_of(t, desk), e))
 }
 
 // A desk's slot as a message.
@@ -152,8 +160,5 @@ pub(crate) fn bring(t: Table, desk: u8) -> Outcome
     requires { ⌜ (desk < 8) × (slotOf t desk .cell < 32) ⌝ }
     ensures { λ r. ⌜ r ≡ bringRule t desk ⌝ }
 {
-    let step = bring_done(record_of(t, desk), message_of(t, desk));
-    let reply = step.reply;
-    let after = put_back(t, step.after);
-    Outcome { reply, after }
+    outcome(t, bring_done(record_of(t, desk), message_of(t, desk)))
 }

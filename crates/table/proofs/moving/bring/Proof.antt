@@ -1,7 +1,7 @@
 use borrow.Author.Needs.{needs}
 use native.Mathlib.Omega.{arith}
 use mathlib.Core.Path.{_≡_, ap}
-use Rattle.table.specs.Rules.{outcome, messageOf, bringRule}
+use Rattle.table.specs.Rules.{messageOf, bringRule}
 use Rattle.table.specs.Table.{recordOf}
 use Rattle.desk.specs.SameDesk.{bring-same}
 use Rattle.table.proofs.moving.bring.Statement.{statement}
@@ -10,7 +10,7 @@ use Rattle.table.proofs.moving.bring.Reads as reads
 use Rattle.table.proofs.moving.bring.Lts as lts
 use Rattle.desk.proofs.bring_done.Reads as bring-done-reads
 use Rattle.table.proofs.moving.message_of.Reads as message-of-reads
-use Rattle.table.proofs.rows.put_back.Reads as put-back-reads
+use Rattle.table.proofs.moving.outcome.Reads as outcome-reads
 use Rattle.table.proofs.rows.record_of.Reads as record-of-reads
 
 record-of-requires : tie.Need-record-of-requires
@@ -23,15 +23,15 @@ bring-done-requires : tie.Need-bring-done-requires
 unfolding messageOf
 bring-done-requires c κs = rw (c .message-of .ensures) (c .before .before .pre .1)
 
-put-back-requires : tie.Need-put-back-requires
+outcome-requires : tie.Need-outcome-requires
 unfolding recordOf
-put-back-requires c κs = rw (c .before .bring-done .ensures, bring-same (c .before .before .before .record-of .result) (c .before .before .message-of .result) .same-number, c .before .before .before .record-of .ensures) (c .before .before .before .before .pre .0)
+outcome-requires c κs = rw (c .bring-done .ensures, bring-same (c .before .before .record-of .result) (c .before .message-of .result) .same-number, c .before .before .record-of .ensures) (c .before .before .before .pre .0)
 
 returns : tie.Need-returns
-unfolding bringRule outcome
-returns c = rw (c .put-back .ensures, c .before .before .bring-done .ensures, c .before .before .before .message-of .ensures, c .before .before .before .before .record-of .ensures)
+unfolding bringRule
+returns c = rw (← c .before .before .before .record-of .ensures, ← c .before .before .message-of .ensures, ← c .before .bring-done .ensures) (c .outcome .ensures)
 
 pub bring-spec : {M : Type 1} → statement M
 bring-spec =
     tie.close
-    (tie.spec record-of-requires message-of-requires bring-done-requires put-back-requires returns)
+    (tie.spec record-of-requires message-of-requires bring-done-requires outcome-requires returns)

@@ -6,16 +6,15 @@ use mir.Syntax.{w32}
 use mir.Val.{Fits}
 use Rattle.clock.specs.Clock.{number}
 use Rattle.desk.specs.declared.Record.{Record}
-use Rattle.table.specs.Rules.{outcome, ownRule}
+use Rattle.table.specs.Rules.{ownRule}
 use Rattle.table.specs.Table.{recordOf}
 use Rattle.desk.specs.SameDesk.{event-same}
-use Rattle.desk.specs.declared.Step.{Step}
 use Rattle.table.proofs.moving.own.Statement.{statement}
 use Rattle.table.proofs.moving.own.Tie as tie
 use Rattle.table.proofs.moving.own.Reads as reads
 use Rattle.table.proofs.moving.own.Lts as lts
 use Rattle.desk.proofs.event_done.Reads as event-done-reads
-use Rattle.table.proofs.rows.put_back.Reads as put-back-reads
+use Rattle.table.proofs.moving.outcome.Reads as outcome-reads
 use Rattle.table.proofs.rows.record_of.Reads as record-of-reads
 
 cast-desk : tie.Need-cast-desk
@@ -34,14 +33,14 @@ event-done-requires c κs =
     let left : c .before .before .args .e .kind ≡ 2 → number (v .clock) (v .desk) ≡ 4294967295 → ⊥ = λ k q. pre .2 k (ap (λ (u : Record). number (u .clock) (u .desk)) (sym same) ∙ q) in
     (pre .1, subst (λ (u : Record). u .desk < 8) (sym same) (pre .0), λ k. let none = left k in omega (arith, fits, none))
 
-put-back-requires : tie.Need-put-back-requires
+outcome-requires : tie.Need-outcome-requires
 unfolding recordOf
-put-back-requires c κs = rw (c .before .event-done .ensures, event-same (c .before .before .record-of .result) (c .before .before .before .before .args .e) .same-number, c .before .before .record-of .ensures) (c .before .before .before .before .pre .0)
+outcome-requires c κs = rw (c .event-done .ensures, event-same (c .before .record-of .result) (c .before .before .before .args .e) .same-number, c .before .record-of .ensures) (c .before .before .before .pre .0)
 
 returns : tie.Need-returns
-unfolding ownRule outcome
-returns c = rw (c .put-back .ensures, c .before .before .event-done .ensures, c .before .before .before .record-of .ensures)
+unfolding ownRule
+returns c = rw (← c .before .before .record-of .ensures, ← c .before .event-done .ensures) (c .outcome .ensures)
 
 pub own-spec : {M : Type 1} → statement M
 own-spec =
-    tie.close (tie.spec cast-desk record-of-requires event-done-requires put-back-requires returns)
+    tie.close (tie.spec cast-desk record-of-requires event-done-requires outcome-requires returns)
