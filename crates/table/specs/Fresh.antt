@@ -1,12 +1,12 @@
 -- A fresh table is sound, whatever set-up it was given that is not refused.
 -- Assumes nothing.
 use mathlib.Core.Path.{_≡_, refl, _∙_}
-use mathlib.Core.Bool.{Bool, true, false, not, _&&_, _||_, cond}
+use mathlib.Core.Bool.{Bool, true, false, not, _||_, cond}
 use mathlib.Core.List.{List}
 use Prim.Native.Nat.{ℕ, zero, suc, _+_, _*_, _/_, _%_, _≤_, _<_}
 use native.Mathlib.Omega.{arith}
-use borrow.Author.Tests.{leb-true, eqb-true, not-false}
-use lib.Dec.{ltb, leb, eqb}
+use borrow.Author.Tests.{eqb-true}
+use lib.Dec.{ltb, eqb}
 use lib.ListN.{length, getD, replicate, length-replicate, getD-replicate}
 use Rattle.clock.specs.Clock.{zeroClock}
 use Rattle.clock.specs.Laws.{zero-past}
@@ -15,12 +15,11 @@ use Rattle.desk.specs.declared.Record.{Record}
 use Rattle.desk.specs.declared.Tray.{Tray}
 use Rattle.desk.specs.Desk.{noCell, noSlot, pastEnd, cellAt, keeps}
 use Rattle.desk.specs.Kept.{no-slot-rule}
-use Rattle.desk.specs.RuleLaws.{passed}
 use Rattle.desk.specs.Sound.{keeperSound}
 use Rattle.desk.specs.SoundLaws.{TrayRule, CellRule, RowRule, keeps-in, no-way}
 use Rattle.lists.specs.Each.{mapAt, length-mapAt, getD-mapAt}
 use Rattle.lists.specs.Part.{getD-slice}
-use Rattle.lists.specs.Test.{every, fails, both-left, both-right, every-mapAt}
+use Rattle.lists.specs.Test.{fails, both-left, both-right, every-mapAt}
 use Rattle.table.specs.declared.Table.{Table}
 use Rattle.table.specs.Rows.{Sized, row-length}
 use Rattle.table.specs.SetUp.{keeperRight, keepersRight, storedKeeper, freshTray, freshCell, freshTable, noTable, setUpRefusal, answerSetUp, setUpRule}
@@ -133,7 +132,8 @@ module _ (desks cells : ℕ) (keepers : List ℕ) (long : length keepers ≡ 32)
         keeper-is =
             λ c h.
             let i : c < length keepers = omega (arith, length-mapAt (storedKeeper cells) keepers) in
-            rw (getD-mapAt (storedKeeper cells) keepers c 0 0 i) (keeper (ltb c cells) (getD keepers c 0) (every-mapAt (keeperRight desks cells) keepers 0 (s .right) c i));
+            rw (getD-mapAt (storedKeeper cells) keepers c 0 0 i)
+            (keeper (ltb c cells) (getD keepers c 0) (every-mapAt (keeperRight desks cells) keepers 0 (s .right) c i));
       }
     where
       keeper : (b : Bool) (k : ℕ) → (not b || ltb k desks) ≡ true → cond b (ltb (cond b k 0) desks) (eqb (cond b k 0) 0) ≡ true

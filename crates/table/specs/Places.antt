@@ -1,9 +1,9 @@
 -- What the code needs to know of an event that is not refused: every place that it names is there.
 -- Assumes nothing.
-use mathlib.Core.Path.{_≡_, refl}
-use mathlib.Core.Bool.{Bool, true, false, not, _&&_, _||_, or-true}
+use mathlib.Core.Path.{_≡_}
+use mathlib.Core.Bool.{true, false, not, _&&_, _||_, or-true}
 use mathlib.Core.Logic.{⊎-elim}
-use Prim.Native.Nat.{ℕ, zero, suc, _≤_, _<_}
+use Prim.Native.Nat.{ℕ, _<_}
 use native.Mathlib.Omega.{arith}
 use borrow.Author.Tests.{ltb-true, eqb-false, eq-eqb, not-false}
 use lib.Dec.{eqb, ltb}
@@ -12,10 +12,8 @@ use Rattle.desk.specs.declared.Event.{Event}
 use Rattle.desk.specs.RuleLaws.{not-both}
 use Rattle.desk.specs.SoundLaws.{TrayRule, tray-rule}
 use Rattle.lists.specs.Test.{both-left}
-use Rattle.table.specs.declared.Outcome.{Outcome}
 use Rattle.table.specs.declared.Table.{Table}
 use Rattle.table.specs.RuleLaws.{Passed, asked-kind, own-kind, here, take-asks, bring-asks}
-use Rattle.table.specs.Rules.{refusedWith, unless}
 use Rattle.table.specs.Sound.{tableSound}
 use Rattle.table.specs.Table.{slotOf, keeperOf, recordOf}
 
@@ -30,14 +28,10 @@ desk-there t e desk h = omega (arith, sound-tray t e .desks-most)
 pub drop-there : (t : Table) (e : Event) → tableSound t ≡ true
     → ((eqb (e .kind) 1 || eqb (e .kind) 2 || eqb (e .kind) 5) && not (ltb (e .cell) (t .tray .cells))) ≡ false → e .kind ≡ 5 → e .cell < 32
 drop-there t e sound range k =
-    let own : (eqb (e .kind) 1 || eqb (e .kind) 2 || eqb (e .kind) 5) ≡ true = rw (eq-eqb (e .kind) 5 k, or-true (eqb (e .kind) 1 || eqb (e .kind) 2)) in
-    let below = ltb-true (e .cell) (t .tray .cells) (not-false (ltb (e .cell) (t .tray .cells)) (not-both (eqb (e .kind) 1 || eqb (e .kind) 2 || eqb (e .kind) 5) (not (ltb (e .cell) (t .tray .cells))) range own)) in
-    omega (arith, below, sound-tray t sound .cells-most)
-
-pub unless-refused : (n : ℕ) (t : Table) (o : Outcome) → (n ≡ 0 → ⊥) → unless n t o ≡ refusedWith n t
-unfolding unless
-unless-refused zero t o some = absurd (some refl)
-unless-refused (suc n) t o some = refl
+    let own = eqb (e .kind) 1 || eqb (e .kind) 2 || eqb (e .kind) 5 in
+    let is-own : own ≡ true = rw (eq-eqb (e .kind) 5 k, or-true (eqb (e .kind) 1 || eqb (e .kind) 2)) in
+    let in-range = not-false (ltb (e .cell) (t .tray .cells)) (not-both own (not (ltb (e .cell) (t .tray .cells))) range is-own) in
+    omega (arith, ltb-true (e .cell) (t .tray .cells) in-range, sound-tray t sound .cells-most)
 
 module _ (t : Table) (e : Event) (a : Passed t e) where
   pub take-there : e .kind ≡ 3

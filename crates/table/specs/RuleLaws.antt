@@ -20,14 +20,10 @@ use Rattle.lists.specs.Test.{both-left, both-right}
 use Rattle.table.specs.declared.Outcome.{Outcome}
 use Rattle.table.specs.declared.Table.{Table}
 use Rattle.table.specs.Rows.{Sized}
-use Rattle.table.specs.Rules.{isOwn, isAsked, isAnswered, refusal, takeRule, bringRule, ownRule, done, unless, eventRule}
+use Rattle.table.specs.Rules.{isOwn, isAsked, isAnswered, refusal, takeRule, bringRule, ownRule, done, refusedWith, unless, eventRule}
 use Rattle.table.specs.Sound.{tableSound}
 use Rattle.table.specs.SoundLaws.{TableRule, table-rule, desk-below, keeper-desk}
 use Rattle.table.specs.Table.{slotOf, keeperOf, recordOf}
-
--- the outcome of a refusal
-abbrev pub refused : ℕ → Table → Outcome
-refused n t = record { reply = record { code = n; value = 0; count = 0 }; after = t }
 
 -- the desk that a waiting desk asks
 abbrev pub keeperFor : Table → ℕ → ℕ
@@ -132,16 +128,17 @@ module _ (t : Table) (e : Event) (none : refusal t e ≡ 0) where
   is-own o = rw (none, ne-eqb (e .kind) 3 (own-else e o .0), ne-eqb (e .kind) 4 (own-else e o .1))
 
 -- a refusal: its number and nothing else, and the table as given
-pub event-refused : (t : Table) (e : Event) → (refusal t e ≡ 0 → ⊥) → eventRule t e ≡ refused (refusal t e) t
-unfolding eventRule unless
-event-refused t e some = go (refusal t e) some
-  where
-    go : (n : ℕ) → (n ≡ 0 → ⊥) → unless n t (done t e) ≡ refused n t
-    go zero some = absurd (some refl)
-    go (suc n) some = refl
+pub unless-refused : (n : ℕ) (t : Table) (o : Outcome) → (n ≡ 0 → ⊥) → unless n t o ≡ refusedWith n t
+unfolding unless
+unless-refused zero t o some = absurd (some refl)
+unless-refused (suc n) t o some = refl
+
+pub event-refused : (t : Table) (e : Event) → (refusal t e ≡ 0 → ⊥) → eventRule t e ≡ refusedWith (refusal t e) t
+unfolding eventRule
+event-refused t e = unless-refused (refusal t e) t (done t e)
 
 pub each-event : (P : Outcome → Type 0) (t : Table) (e : Event) → Sized t
-    → P (refused (refusal t e) t)
+    → P (refusedWith (refusal t e) t)
     → (Passed t e → e .kind ≡ 3 → P (takeRule t (e .desk)))
     → (Passed t e → e .kind ≡ 4 → P (bringRule t (e .desk)))
     → (Passed t e → isOwn e ≡ true → P (ownRule t e))

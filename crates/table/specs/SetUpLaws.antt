@@ -5,7 +5,7 @@ use mathlib.Core.Bool.{true, not, _&&_}
 use mathlib.Core.List.{List}
 use Prim.Native.Nat.{ℕ, _≤_, _<_}
 use borrow.Author.Tests.{ltb-true, leb-true, not-false, lt-ltb}
-use lib.Dec.{leb, ltb}
+use lib.Dec.{leb}
 use lib.ListN.{length, getD}
 use Rattle.desk.specs.RuleLaws.{passed}
 use Rattle.lists.specs.Test.{both-left, both-right, either-left, every-mapAt}

@@ -12,8 +12,8 @@ use Rattle.desk.specs.SameDesk.{SameDesk, serve-answers, event-same, serve-same
 use Rattle.table.specs.declared.Outcome.{Outcome}
 use Rattle.table.specs.declared.Table.{Table}
 use Rattle.table.specs.Rows.{Sized, put-sized, put-same, put-other, slot-same, slot-other}
-use Rattle.table.specs.RuleLaws.{refused, keeperFor, Passed, own-else, each-event, here, take-asks}
-use Rattle.table.specs.Rules.{refusal, outcome, messageOf, answerSlot, served, takeRule, bringRule, ownRule, eventRule}
+use Rattle.table.specs.RuleLaws.{keeperFor, Passed, own-else, each-event, here, take-asks}
+use Rattle.table.specs.Rules.{refusal, outcome, messageOf, answerSlot, served, takeRule, bringRule, ownRule, refusedWith, eventRule}
 use Rattle.table.specs.SoundLaws.{desk-below}
 use Rattle.table.specs.Table.{recordOf, putBack, withSlotOf}
 
@@ -73,7 +73,7 @@ module _ (t : Table) (e : Event) (z : Sized t) where
         slot-other (putBack t u) (e .desk) (answerSlot (served t (e .desk) .message)) (keeper-sized a k) keeper (take-asks t e a k .another)
         ∙ put-same t keeper u z (keeper-below a k) serve-stays
 
-  each-take : (P : Outcome → Type 0) → e .kind ≡ 3 → P (refused (refusal t e) t) → (Passed t e → P (takeRule t (e .desk)))
+  each-take : (P : Outcome → Type 0) → e .kind ≡ 3 → P (refusedWith (refusal t e) t) → (Passed t e → P (takeRule t (e .desk)))
       → P (eventRule t e)
   each-take P k refuse take =
       each-event P t e z refuse (λ a _. take a) (λ a l. absurd (omega arith)) (λ a o. absurd (own-else e o .0 k))

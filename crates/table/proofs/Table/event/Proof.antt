@@ -4,9 +4,9 @@ use mathlib.Core.Path.{_≡_, sym, _∙_}
 use borrow.Author.Tests.{lt-ltb, le-ltb, le-leb, lt-leb, eq-eqb, ne-eqb, not-true, not-false, ltb-true}
 use Rattle.lists.specs.Each.{length-mapped}
 use Rattle.table.specs.Rules.{unless, done, eventRule}
-use Rattle.table.specs.Places.{unless-refused, take-there, bring-there, own-there}
+use Rattle.table.specs.Places.{take-there, bring-there, own-there}
 use Rattle.table.specs.Rows.{Sized}
-use Rattle.table.specs.RuleLaws.{pass, here}
+use Rattle.table.specs.RuleLaws.{pass, here, unless-refused}
 use Rattle.table.proofs.Table.event.Statement.{statement}
 use Rattle.table.proofs.Table.event.Tie as tie
 use Rattle.table.proofs.Table.event.Reads as reads
