@@ -1,7 +1,10 @@
+-- `table::Table::event` meets its contract: a refusal that is not 0 gives the number back; 0 leaves the kind to choose the rule, and has
+-- shown that every place it names is there.
+-- Assumes nothing.
 use borrow.Author.Needs.{needs}
 use native.Mathlib.Omega.{arith}
-use mathlib.Core.Path.{_≡_, sym, _∙_}
-use borrow.Author.Tests.{lt-ltb, le-ltb, le-leb, lt-leb, eq-eqb, ne-eqb, not-true, not-false, ltb-true}
+use mathlib.Core.Path.{sym, _∙_}
+use borrow.Author.Tests.{eq-eqb, ne-eqb}
 use Rattle.lists.specs.Each.{length-mapped}
 use Rattle.table.specs.Rules.{unless, done, eventRule}
 use Rattle.table.specs.Places.{take-there, bring-there, own-there}
@@ -9,13 +12,6 @@ use Rattle.table.specs.Rows.{Sized}
 use Rattle.table.specs.RuleLaws.{pass, here, unless-refused}
 use Rattle.table.proofs.Table.event.Statement.{statement}
 use Rattle.table.proofs.Table.event.Tie as tie
-use Rattle.table.proofs.Table.event.Reads as reads
-use Rattle.table.proofs.Table.event.Lts as lts
-use Rattle.table.proofs.moving.bring.Reads as bring-reads
-use Rattle.table.proofs.moving.own.Reads as own-reads
-use Rattle.table.proofs.moving.refusal.Reads as refusal-reads
-use Rattle.table.proofs.moving.take.Reads as take-reads
-use Rattle.table.proofs.refused.Reads as refused-reads
 
 refusal-requires : tie.Need-refusal-requires
 refusal-requires c κs = search needs

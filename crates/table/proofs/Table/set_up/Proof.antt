@@ -1,18 +1,13 @@
+-- `table::Table::set_up` meets its contract: a refusal gives its number and the all-zero table.
+-- Assumes nothing.
 use borrow.Author.Needs.{needs}
-use native.Mathlib.Omega.{arith}
 use Prim.Native.Nat.{ℕ, zero, suc}
 use Rattle.table.specs.declared.SetUp.{SetUp}
 use Rattle.table.specs.declared.Table.{Table}
 use mathlib.Core.Path.{_≡_, refl, sym, _∙_}
-use Rattle.table.specs.SetUp.{freshTray, freshTable}
 use Rattle.table.specs.SetUp.{answerSetUp, noTable, setUpRule}
 use Rattle.table.proofs.Table.set_up.Statement.{statement}
 use Rattle.table.proofs.Table.set_up.Tie as tie
-use Rattle.table.proofs.Table.set_up.Reads as reads
-use Rattle.table.proofs.Table.set_up.Lts as lts
-use Rattle.table.proofs.setting.fresh.Reads as fresh-reads
-use Rattle.table.proofs.setting.refusal.Reads as refusal-reads
-use Rattle.table.proofs.setting.tray.Reads as tray-reads
 
 refused : (n : ℕ) → (n ≡ 0 → ⊥) → (fresh : Table) → _≡_ {A = SetUp} (record { code = n; table = noTable }) (answerSetUp n fresh)
 unfolding answerSetUp

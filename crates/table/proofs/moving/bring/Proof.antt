@@ -1,17 +1,11 @@
+-- `table::moving::bring` meets its contract: the desk stays the same desk, so its record can be put back.
+-- Assumes nothing.
 use borrow.Author.Needs.{needs}
-use native.Mathlib.Omega.{arith}
-use mathlib.Core.Path.{_≡_, ap}
 use Rattle.table.specs.Rules.{messageOf, bringRule}
 use Rattle.table.specs.Table.{recordOf}
 use Rattle.desk.specs.SameDesk.{bring-same}
 use Rattle.table.proofs.moving.bring.Statement.{statement}
 use Rattle.table.proofs.moving.bring.Tie as tie
-use Rattle.table.proofs.moving.bring.Reads as reads
-use Rattle.table.proofs.moving.bring.Lts as lts
-use Rattle.desk.proofs.bring_done.Reads as bring-done-reads
-use Rattle.table.proofs.moving.message_of.Reads as message-of-reads
-use Rattle.table.proofs.moving.outcome.Reads as outcome-reads
-use Rattle.table.proofs.rows.record_of.Reads as record-of-reads
 
 record-of-requires : tie.Need-record-of-requires
 record-of-requires c κs = c .pre .0

@@ -1,11 +1,9 @@
+-- `table::moving::drops_kept` meets its contract.
+-- Assumes nothing.
 use borrow.Author.Needs.{needs}
-use native.Mathlib.Omega.{arith}
-use borrow.Author.Tests.{lt-ltb, le-ltb, le-leb, lt-leb, eq-eqb, ne-eqb, not-true, not-false, ltb-true}
+use borrow.Author.Tests.{eq-eqb, ne-eqb}
 use Rattle.table.proofs.moving.drops_kept.Statement.{statement}
 use Rattle.table.proofs.moving.drops_kept.Tie as tie
-use Rattle.table.proofs.moving.drops_kept.Reads as reads
-use Rattle.table.proofs.moving.drops_kept.Lts as lts
-use Rattle.desk.proofs.sound.keeps.Reads as keeps-reads
 
 returns : tie.Need-returns
 returns c = rw (ne-eqb _ _ (c .if1 .taken))

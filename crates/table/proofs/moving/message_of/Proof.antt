@@ -1,11 +1,10 @@
+-- `table::moving::message_of` meets its contract.
+-- Assumes nothing.
 use borrow.Author.Needs.{needs}
-use native.Mathlib.Omega.{arith}
 use Rattle.table.specs.Rules.{messageOf}
 use Rattle.table.specs.Table.{recordOf}
 use Rattle.table.proofs.moving.message_of.Statement.{statement}
 use Rattle.table.proofs.moving.message_of.Tie as tie
-use Rattle.table.proofs.moving.message_of.Reads as reads
-use Rattle.table.proofs.moving.message_of.Lts as lts
 
 mul-s : tie.Need-mul-s
 mul-s c = search needs

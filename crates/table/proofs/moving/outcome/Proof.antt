@@ -1,11 +1,9 @@
+-- `table::moving::outcome` meets its contract.
+-- Assumes nothing.
 use borrow.Author.Needs.{needs}
-use native.Mathlib.Omega.{arith}
 use Rattle.table.specs.Rules.{outcome}
 use Rattle.table.proofs.moving.outcome.Statement.{statement}
 use Rattle.table.proofs.moving.outcome.Tie as tie
-use Rattle.table.proofs.moving.outcome.Reads as reads
-use Rattle.table.proofs.moving.outcome.Lts as lts
-use Rattle.table.proofs.rows.put_back.Reads as put-back-reads
 
 put-back-requires : tie.Need-put-back-requires
 put-back-requires c κs = search needs

@@ -1,3 +1,5 @@
+-- `table::moving::own` meets its contract: the desk stays the same desk, so its record can be put back.
+-- Assumes nothing.
 use borrow.Author.Needs.{needs}
 use native.Mathlib.Omega.{arith}
 use mathlib.Core.Path.{_≡_, ap, sym, subst, _∙_}
@@ -11,11 +13,6 @@ use Rattle.table.specs.Table.{recordOf}
 use Rattle.desk.specs.SameDesk.{event-same}
 use Rattle.table.proofs.moving.own.Statement.{statement}
 use Rattle.table.proofs.moving.own.Tie as tie
-use Rattle.table.proofs.moving.own.Reads as reads
-use Rattle.table.proofs.moving.own.Lts as lts
-use Rattle.desk.proofs.event_done.Reads as event-done-reads
-use Rattle.table.proofs.moving.outcome.Reads as outcome-reads
-use Rattle.table.proofs.rows.record_of.Reads as record-of-reads
 
 cast-desk : tie.Need-cast-desk
 cast-desk c = search needs

@@ -1,20 +1,14 @@
+-- `table::moving::refusal` meets its contract: each return rewrites with the tests that led there, in the order of the table.
+-- Assumes nothing.
 use borrow.Author.Needs.{needs}
 use native.Mathlib.Omega.{arith}
-use mathlib.Core.Path.{_≡_, sym, _∙_}
-use borrow.Author.Tests.{lt-ltb, le-ltb, le-leb, lt-leb, eq-eqb, ne-eqb, not-true, not-false, ltb-true}
+use mathlib.Core.Path.{sym, _∙_}
+use borrow.Author.Tests.{lt-ltb, le-ltb, not-true, not-false}
 use Rattle.table.specs.Rules.{isOwn, refusal}
 use Rattle.table.specs.Table.{recordOf}
 use Rattle.table.specs.Places.{desk-there, drop-there}
 use Rattle.table.proofs.moving.refusal.Statement.{statement}
 use Rattle.table.proofs.moving.refusal.Tie as tie
-use Rattle.table.proofs.moving.refusal.Reads as reads
-use Rattle.table.proofs.moving.refusal.Lts as lts
-use Rattle.desk.proofs.sound.waits.Reads as waits-reads
-use Rattle.table.proofs.moving.drops_kept.Reads as drops-kept-reads
-use Rattle.table.proofs.moving.is_answered.Reads as is-answered-reads
-use Rattle.table.proofs.moving.is_asked.Reads as is-asked-reads
-use Rattle.table.proofs.moving.writes_past.Reads as writes-past-reads
-use Rattle.table.proofs.rows.sound.Reads as sound-reads
 
 cast-desks : tie.Need-cast-desks
 cast-desks c = search needs

@@ -1,17 +1,11 @@
+-- `table::moving::take` meets its contract: the keeper stays the same desk, so its record can be put back.
+-- Assumes nothing.
 use borrow.Author.Needs.{needs}
-use native.Mathlib.Omega.{arith}
-use mathlib.Core.Path.{_≡_, ap}
 use Rattle.table.specs.Rules.{messageOf, served, takeRule}
 use Rattle.table.specs.Table.{recordOf, withSlotOf}
 use Rattle.desk.specs.SameDesk.{serve-same}
 use Rattle.table.proofs.moving.take.Statement.{statement}
 use Rattle.table.proofs.moving.take.Tie as tie
-use Rattle.table.proofs.moving.take.Reads as reads
-use Rattle.table.proofs.moving.take.Lts as lts
-use Rattle.desk.proofs.serve_done.Reads as serve-done-reads
-use Rattle.table.proofs.moving.message_of.Reads as message-of-reads
-use Rattle.table.proofs.rows.put_back.Reads as put-back-reads
-use Rattle.table.proofs.rows.record_of.Reads as record-of-reads
 
 message-of-requires : tie.Need-message-of-requires
 message-of-requires c κs = search needs

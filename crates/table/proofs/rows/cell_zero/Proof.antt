@@ -1,11 +1,9 @@
+-- `table::rows::cell_zero` meets its contract.
+-- Assumes nothing.
 use borrow.Author.Needs.{needs}
-use native.Mathlib.Omega.{arith}
 use Rattle.table.specs.Sound.{cellZero}
 use Rattle.table.proofs.rows.cell_zero.Statement.{statement}
 use Rattle.table.proofs.rows.cell_zero.Tie as tie
-use Rattle.table.proofs.rows.cell_zero.Reads as reads
-use Rattle.table.proofs.rows.cell_zero.Lts as lts
-use Rattle.clock.proofs.Clock.within.Reads as within-reads
 
 within-requires : tie.Need-within-requires
 within-requires c κs = search needs

@@ -1,15 +1,11 @@
+-- `table::rows::desk_sound` meets its contract: the desk is there, or it is absent.
+-- Assumes nothing.
 use borrow.Author.Needs.{needs}
-use native.Mathlib.Omega.{arith}
-use borrow.Author.Tests.{lt-ltb, le-ltb, le-leb, lt-leb, eq-eqb, ne-eqb, not-true, not-false, ltb-true}
+use borrow.Author.Tests.{lt-ltb, le-ltb}
 use Rattle.table.specs.Sound.{deskSound}
 use Rattle.table.specs.Table.{recordOf}
 use Rattle.table.proofs.rows.desk_sound.Statement.{statement}
 use Rattle.table.proofs.rows.desk_sound.Tie as tie
-use Rattle.table.proofs.rows.desk_sound.Reads as reads
-use Rattle.table.proofs.rows.desk_sound.Lts as lts
-use Rattle.desk.proofs.sound.row_sound.Reads as row-sound-reads
-use Rattle.table.proofs.rows.record_of.Reads as record-of-reads
-use Rattle.table.proofs.rows.row_zero.Reads as row-zero-reads
 
 record-of-requires : tie.Need-record-of-requires
 record-of-requires c κs = search needs

@@ -1,24 +1,21 @@
+-- `table::rows::put_back` meets its contract. The loop's invariant: the cells passed are the record's, all else is as it was.
+-- Assumes nothing.
 use borrow.Author.Needs.{needs}
 use native.Mathlib.Omega.{arith}
-use mathlib.Core.Path.{_≡_, refl, sym, ap, ap₂, _∙_}
-use mathlib.Core.Bool.{Bool, true, false, not, _&&_, _||_, cond, and-false}
-use mathlib.Core.List.{List}
-use Prim.Native.Nat.{ℕ, _+_, _-_, _*_, _≤_, _<_}
-use lib.ListN.{length, drop, getD, set, replicate}
-use lib.Seq.{slice, paste}
+use mathlib.Core.Path.{_≡_, sym, ap, _∙_}
+use Prim.Native.Nat.{ℕ, _+_, _-_, _*_, _≤_}
+use lib.ListN.{length, set}
+use lib.Seq.{paste}
 use native.Mathlib.Numerals.{add-one}
 use lib.Seq.{paste-zero, paste-suc}
 use Rattle.lists.specs.Each.{length-mapped}
 use Rattle.desk.specs.Desk.{cellAt}
 use Rattle.table.specs.declared.Table.{Table}
 use Rattle.desk.specs.declared.Record.{Record}
-use Rattle.desk.specs.declared.Cell.{Cell}
 use Rattle.desk.specs.Desk.{pastEnd}
 use Rattle.table.specs.Table.{putBack}
 use Rattle.table.proofs.rows.put_back.Statement.{statement}
 use Rattle.table.proofs.rows.put_back.Tie as tie
-use Rattle.table.proofs.rows.put_back.Reads as reads
-use Rattle.table.proofs.rows.put_back.Lts as lts
 
 -- the table with the first n cells of the row put back
 abbrev pasted : Table → Record → ℕ → Table

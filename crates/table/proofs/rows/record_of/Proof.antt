@@ -1,23 +1,23 @@
+-- `table::rows::record_of` meets its contract. The loop's invariant: the places passed have the cells of the desk's row.
+-- Assumes nothing.
 use borrow.Author.Needs.{needs}
 use native.Mathlib.Omega.{arith}
-use mathlib.Core.Path.{_≡_, refl, sym, ap, ap₂, _∙_}
-use mathlib.Core.Bool.{Bool, true, false, not, _&&_, _||_, cond, and-false}
+use mathlib.Core.Path.{_≡_, refl, sym, ap, _∙_}
+use mathlib.Core.Bool.{false}
 use mathlib.Core.List.{List}
-use Prim.Native.Nat.{ℕ, _+_, _-_, _*_, _≤_, _<_}
-use lib.ListN.{length, drop, getD, set, replicate}
-use lib.Seq.{slice, paste}
+use Prim.Native.Nat.{ℕ, _+_, _-_, _*_, _≤_}
+use lib.ListN.{length, getD, set, replicate}
+use lib.Seq.{slice}
 use lib.Seq.{length-slice}
 use Rattle.lists.specs.Each.{length-mapped}
 use Rattle.lists.specs.Part.{getD-slice}
 use Rattle.table.specs.Table.{pastClock, slotOf}
-use Rattle.lists.specs.Replaced.{upTo, upTo-step, upTo-all, upTo-mapAt}
+use Rattle.lists.specs.Replaced.{upTo, upTo-step, upTo-all}
 use Rattle.desk.specs.declared.Cell.{Cell}
 use Rattle.desk.specs.Desk.{pastEnd, noCell}
 use Rattle.table.specs.Table.{recordOf}
 use Rattle.table.proofs.rows.record_of.Statement.{statement}
 use Rattle.table.proofs.rows.record_of.Tie as tie
-use Rattle.table.proofs.rows.record_of.Reads as reads
-use Rattle.table.proofs.rows.record_of.Lts as lts
 
 -- what the loop copies to place k
 abbrev from : List Cell → ℕ → ℕ → Cell

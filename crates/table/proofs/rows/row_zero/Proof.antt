@@ -1,23 +1,18 @@
+-- `table::rows::row_zero` meets its contract. The loop's invariant: the test so far, with what is left of the row.
+-- Assumes nothing.
 use borrow.Author.Needs.{needs}
 use native.Mathlib.Omega.{arith}
-use mathlib.Core.Path.{_≡_, refl, sym, ap, ap₂, _∙_}
-use mathlib.Core.Bool.{Bool, true, false, not, _&&_, _||_, cond, and-false}
-use mathlib.Core.List.{List}
-use Prim.Native.Nat.{ℕ, _+_, _-_, _*_, _≤_, _<_}
-use lib.ListN.{length, drop, getD, set, replicate}
-use lib.Seq.{slice, paste}
+use mathlib.Core.Path.{_≡_}
+use mathlib.Core.Bool.{_&&_}
+use Prim.Native.Nat.{_-_, _≤_}
+use lib.ListN.{length, drop}
 use Rattle.clock.specs.Clock.{isWithin}
-use Rattle.lists.specs.Each.{mapAt, length-mapAt, getD-mapAt, length-mapped}
-use Rattle.lists.specs.Test.{every, mapAt-turn, mapAt-end, every-mapAt}
+use Rattle.lists.specs.Each.{mapAt, length-mapped}
+use Rattle.lists.specs.Test.{every, mapAt-turn, mapAt-end}
 use Rattle.desk.specs.Desk.{pastEnd}
 use Rattle.table.specs.Sound.{cellZero, rowZero}
 use Rattle.table.proofs.rows.row_zero.Statement.{statement}
 use Rattle.table.proofs.rows.row_zero.Tie as tie
-use Rattle.table.proofs.rows.row_zero.Reads as reads
-use Rattle.table.proofs.rows.row_zero.Lts as lts
-use Rattle.clock.proofs.Clock.within.Reads as within-reads
-use Rattle.table.proofs.rows.cell_zero.Reads as cell-zero-reads
-use Rattle.table.proofs.rows.slot_zero.Reads as slot-zero-reads
 
 abbrev Inv-loop : tie.InvT-loop
 Inv-loop v ok₀ c₀ ok c = (c ≤ 32)

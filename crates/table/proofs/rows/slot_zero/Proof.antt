@@ -1,11 +1,9 @@
+-- `table::rows::slot_zero` meets its contract.
+-- Assumes nothing.
 use borrow.Author.Needs.{needs}
-use native.Mathlib.Omega.{arith}
 use Rattle.table.specs.Sound.{slotZero}
 use Rattle.table.proofs.rows.slot_zero.Statement.{statement}
 use Rattle.table.proofs.rows.slot_zero.Tie as tie
-use Rattle.table.proofs.rows.slot_zero.Reads as reads
-use Rattle.table.proofs.rows.slot_zero.Lts as lts
-use Rattle.clock.proofs.Clock.within.Reads as within-reads
 
 within-requires : tie.Need-within-requires
 within-requires c κs = search needs

@@ -1,14 +1,14 @@
+-- `table::rows::sound` meets its contract. The loop's invariant: the test so far, with what is left of the desks.
+-- Assumes nothing.
 use borrow.Author.Needs.{needs}
 use native.Mathlib.Omega.{arith}
-use mathlib.Core.Path.{_≡_, refl, sym, ap, ap₂, _∙_}
-use mathlib.Core.Bool.{Bool, true, false, not, _&&_, _||_, cond, and-false}
-use mathlib.Core.List.{List}
-use Prim.Native.Nat.{ℕ, _+_, _-_, _*_, _≤_, _<_}
-use lib.ListN.{length, drop, getD, set, replicate}
-use lib.Seq.{slice, paste}
-use borrow.Author.Tests.{lt-ltb, le-ltb, le-leb, lt-leb, eq-eqb, ne-eqb, not-true, not-false, ltb-true}
-use Rattle.lists.specs.Each.{mapAt, length-mapAt, getD-mapAt, length-mapped}
-use Rattle.lists.specs.Test.{every, mapAt-turn, mapAt-end, every-mapAt}
+use mathlib.Core.Path.{_≡_, refl, sym, _∙_}
+use mathlib.Core.Bool.{Bool, _&&_}
+use Prim.Native.Nat.{ℕ, _-_, _≤_}
+use lib.ListN.{length, drop}
+use borrow.Author.Tests.{not-true, not-false}
+use Rattle.lists.specs.Each.{mapAt, length-mapped}
+use Rattle.lists.specs.Test.{every, mapAt-turn, mapAt-end}
 use Rattle.table.specs.Sound.{deskSound, tableSound}
 use Rattle.table.specs.Table.{pastClock}
 use Rattle.clock.specs.declared.Clock.{Clock}
@@ -16,10 +16,6 @@ use Rattle.table.specs.declared.Table.{Table}
 use Rattle.desk.specs.SoundLaws.{tray-rule}
 use Rattle.table.proofs.rows.sound.Statement.{statement}
 use Rattle.table.proofs.rows.sound.Tie as tie
-use Rattle.table.proofs.rows.sound.Reads as reads
-use Rattle.table.proofs.rows.sound.Lts as lts
-use Rattle.desk.proofs.sound.tray_sound.Reads as tray-sound-reads
-use Rattle.table.proofs.rows.desk_sound.Reads as desk-sound-reads
 
 -- desk d is sound, whatever its clock
 abbrev sound-at : Table → ℕ → Clock → Bool

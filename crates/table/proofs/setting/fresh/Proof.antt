@@ -1,24 +1,20 @@
+-- `table::setting::fresh` meets its contract. The loop's invariant: the entries passed are those of a fresh table.
+-- Assumes nothing.
 use borrow.Author.Needs.{needs}
 use native.Mathlib.Omega.{arith}
-use mathlib.Core.Path.{_≡_, refl, sym, ap, ap₂, _∙_}
-use mathlib.Core.Bool.{Bool, true, false, not, _&&_, _||_, cond, and-false}
+use mathlib.Core.Path.{_≡_, refl, sym, ap₂, _∙_}
+use mathlib.Core.Bool.{false}
 use mathlib.Core.List.{List}
-use Prim.Native.Nat.{ℕ, _+_, _-_, _*_, _≤_, _<_}
-use lib.ListN.{length, drop, getD, set, replicate}
-use lib.Seq.{slice, paste}
+use Prim.Native.Nat.{_-_, _≤_}
+use lib.ListN.{set, replicate}
 use Rattle.clock.specs.Clock.{zeroClock}
 use Rattle.desk.specs.Desk.{noSlot}
-use Rattle.lists.specs.Replaced.{upTo, upTo-step, upTo-all, upTo-mapAt}
-use Rattle.lists.specs.Each.{mapAt, length-mapAt, getD-mapAt, length-mapped}
+use Rattle.lists.specs.Replaced.{upTo, upTo-step, upTo-mapAt}
 use Rattle.desk.specs.declared.Cell.{Cell}
-use Rattle.desk.specs.declared.Tray.{Tray}
 use Rattle.desk.specs.Desk.{noCell, pastEnd}
 use Rattle.table.specs.SetUp.{freshCell, freshTable}
 use Rattle.table.proofs.setting.fresh.Statement.{statement}
 use Rattle.table.proofs.setting.fresh.Tie as tie
-use Rattle.table.proofs.setting.fresh.Reads as reads
-use Rattle.table.proofs.setting.fresh.Lts as lts
-use Rattle.table.proofs.setting.fresh_cell.Reads as fresh-cell-reads
 
 abbrev Inv-loop : tie.InvT-loop
 Inv-loop t cells₀ i₀ cells i = (i ≤ 256) × (cells ≡ upTo (freshCell t) i (replicate 256 noCell))

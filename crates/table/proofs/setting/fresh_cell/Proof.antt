@@ -1,10 +1,8 @@
+-- `table::setting::fresh_cell` meets its contract.
+-- Assumes nothing.
 use borrow.Author.Needs.{needs}
-use native.Mathlib.Omega.{arith}
 use Rattle.table.proofs.setting.fresh_cell.Statement.{statement}
 use Rattle.table.proofs.setting.fresh_cell.Tie as tie
-use Rattle.table.proofs.setting.fresh_cell.Reads as reads
-use Rattle.table.proofs.setting.fresh_cell.Lts as lts
-use Rattle.desk.proofs.sound.keeps.Reads as keeps-reads
 
 cast-desk : tie.Need-cast-desk
 cast-desk c = search needs

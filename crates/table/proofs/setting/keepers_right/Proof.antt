@@ -1,18 +1,16 @@
+-- `table::setting::keepers_right` meets its contract. The loop's invariant: the test so far, with what is left of the keepers.
+-- Assumes nothing.
 use borrow.Author.Needs.{needs}
 use native.Mathlib.Omega.{arith}
-use mathlib.Core.Path.{_≡_, refl, sym, ap, ap₂, _∙_}
-use mathlib.Core.Bool.{Bool, true, false, not, _&&_, _||_, cond, and-false}
-use mathlib.Core.List.{List}
-use Prim.Native.Nat.{ℕ, _+_, _-_, _*_, _≤_, _<_}
-use lib.ListN.{length, drop, getD, set, replicate}
-use lib.Seq.{slice, paste}
-use Rattle.lists.specs.Each.{mapAt, length-mapAt, getD-mapAt, length-mapped}
-use Rattle.lists.specs.Test.{every, mapAt-turn, mapAt-end, every-mapAt}
+use mathlib.Core.Path.{_≡_, refl, sym}
+use mathlib.Core.Bool.{_&&_}
+use Prim.Native.Nat.{_-_, _≤_}
+use lib.ListN.{length, drop}
+use Rattle.lists.specs.Each.{mapAt}
+use Rattle.lists.specs.Test.{every, mapAt-turn, mapAt-end}
 use Rattle.table.specs.SetUp.{keeperRight, keepersRight}
 use Rattle.table.proofs.setting.keepers_right.Statement.{statement}
 use Rattle.table.proofs.setting.keepers_right.Tie as tie
-use Rattle.table.proofs.setting.keepers_right.Reads as reads
-use Rattle.table.proofs.setting.keepers_right.Lts as lts
 
 abbrev Inv-loop : tie.InvT-loop
 Inv-loop desks cells keepers count right₀ c₀ right c = (c ≤ 32)

@@ -1,6 +1,6 @@
-use borrow.Author.Needs.{needs}
-use native.Mathlib.Omega.{arith}
-use borrow.Author.Tests.{lt-ltb, le-ltb, le-leb, lt-leb, eq-eqb, ne-eqb, not-true, not-false, ltb-true}
+-- `table::setting::refusal` meets its contract: each return rewrites with the tests that led there.
+-- Assumes nothing.
+use borrow.Author.Tests.{not-false}
 use mathlib.Core.Bool.{_&&_}
 use lib.Dec.{leb}
 use borrow.Author.Tests.{leb-true}
@@ -8,9 +8,6 @@ use Rattle.lists.specs.Test.{both-right}
 use Rattle.table.specs.SetUp.{setUpRefusal}
 use Rattle.table.proofs.setting.refusal.Statement.{statement}
 use Rattle.table.proofs.setting.refusal.Tie as tie
-use Rattle.table.proofs.setting.refusal.Reads as reads
-use Rattle.table.proofs.setting.refusal.Lts as lts
-use Rattle.table.proofs.setting.keepers_right.Reads as keepers-right-reads
 
 returns : tie.Need-returns
 unfolding setUpRefusal

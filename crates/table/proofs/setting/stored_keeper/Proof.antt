@@ -1,9 +1,8 @@
-use borrow.Author.Needs.{needs}
+-- `table::setting::stored_keeper` meets its contract.
+-- Assumes nothing.
 use native.Mathlib.Omega.{arith}
 use Rattle.table.proofs.setting.stored_keeper.Statement.{statement}
 use Rattle.table.proofs.setting.stored_keeper.Tie as tie
-use Rattle.table.proofs.setting.stored_keeper.Reads as reads
-use Rattle.table.proofs.setting.stored_keeper.Lts as lts
 
 cast-result : tie.Need-cast-result
 cast-result c = omega (arith, c .before .pre (c .if1 .taken))

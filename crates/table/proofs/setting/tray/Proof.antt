@@ -1,21 +1,18 @@
+-- `table::setting::tray` meets its contract. The loop's invariant: the places passed have the keepers as they are stored.
+-- Assumes nothing.
 use borrow.Author.Needs.{needs}
 use native.Mathlib.Omega.{arith}
-use mathlib.Core.Path.{_≡_, refl, sym, ap, ap₂, _∙_}
-use mathlib.Core.Bool.{Bool, true, false, not, _&&_, _||_, cond, and-false}
+use mathlib.Core.Path.{_≡_, refl, sym, ap₂, _∙_}
 use mathlib.Core.List.{List}
-use Prim.Native.Nat.{ℕ, _+_, _-_, _*_, _≤_, _<_}
-use lib.ListN.{length, drop, getD, set, replicate}
-use lib.Seq.{slice, paste}
-use borrow.Author.Tests.{lt-ltb, le-ltb, le-leb, lt-leb, eq-eqb, ne-eqb, not-true, not-false, ltb-true}
+use Prim.Native.Nat.{ℕ, _-_, _≤_}
+use lib.ListN.{length, getD, set, replicate}
+use borrow.Author.Tests.{ltb-true}
 use Rattle.table.specs.SetUpLaws.{settled, keeper-below}
-use Rattle.lists.specs.Replaced.{upTo, upTo-step, upTo-all, upTo-mapAt}
-use Rattle.lists.specs.Each.{mapAt, length-mapAt, getD-mapAt, length-mapped}
+use Rattle.lists.specs.Replaced.{upTo, upTo-step, upTo-all}
+use Rattle.lists.specs.Each.{mapAt, length-mapAt, getD-mapAt}
 use Rattle.table.specs.SetUp.{storedKeeper, freshTray}
 use Rattle.table.proofs.setting.tray.Statement.{statement}
 use Rattle.table.proofs.setting.tray.Tie as tie
-use Rattle.table.proofs.setting.tray.Reads as reads
-use Rattle.table.proofs.setting.tray.Lts as lts
-use Rattle.table.proofs.setting.stored_keeper.Reads as stored-keeper-reads
 
 -- what the loop stores at place k
 abbrev stored-at : ℕ → List ℕ → ℕ → ℕ
