@@ -103,8 +103,11 @@ fn outcome(t: Table, s: Step) -> Outcome
     ensures { λ r. ⌜ r ≡ outcome·def t s ⌝ }
 {
     let reply = s.reply;
-    let after = put_back(t, s.after);
-    Outcome { reply, after }
+    let table = put_back(t, s.after);
+    Outcome {
+        reply,
+        after: table,
+    }
 }
 
 pub(crate) fn own(t: Table, e: Event) -> Outcome

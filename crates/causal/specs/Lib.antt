@@ -1,0 +1,12 @@
+pub mod Changed
+pub mod History
+pub mod Demand
+pub mod Ranking
+pub mod Facts
+pub mod Knowledge
+pub mod Machine
+pub mod Keepers
+pub mod Invariants
+pub mod Run
+pub mod Accident
+pub mod Example

@@ -1,0 +1,11 @@
+pub mod Operations
+pub mod Promise
+pub mod State
+pub mod Room
+pub mod Moves
+pub mod Link
+pub mod Start
+pub mod Runs
+pub mod Played
+pub mod Case
+pub mod Shortcuts
