@@ -2,12 +2,14 @@
 -- Assumes nothing.
 use mathlib.Core.Path.{_≡_, refl}
 use mathlib.Core.List.{List, [], _∷_}
+use Prim.Native.Nat.{ℕ}
 use lib.ListN.{replicate}
 use Rattle.causal.specs.History.{blank, from, nothing, wrote, showed}
 use Rattle.desk.specs.declared.Event.{Event}
 use Rattle.table.specs.Rules.{eventRule}
 use Rattle.promise.specs.Operations.{Account}
 use Rattle.promise.specs.Played.{event, reply, played}
+use Rattle.promise.specs.Promise.{Explained, demand-3}
 
 -- three desks and two cells: cell 0, the datum, is kept by desk 1, and cell 1, the coordinate, by desk 0
 unfoldable pub script : List Event
@@ -32,3 +34,8 @@ pub case-history : case .history ≡
     ∷ showed 0 1 500 (from 6) 9 ∷ nothing ∷ nothing ∷ showed 0 0 27 (from 3) 10 ∷ []
 unfolding case script
 case-history = refl
+
+-- and each desk has its order
+pub case-explained : (p : ℕ) → Explained case p
+unfolding case
+case-explained = demand-3 3 2 (1 ∷ 0 ∷ replicate 30 0) refl refl script

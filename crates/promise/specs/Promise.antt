@@ -22,13 +22,13 @@ historyOf a = listed (a .history)
 
 -- What a run owes to desk p.
 pub record Explained (a : Account) (p : ℕ) : Type 0 where
-  -- all taken writes and p's finished reads, each once, every one after those that causally precede it, each read after the write that it
-  -- shows and no other write of its cell between them
+  -- All taken writes and p's finished reads, each once, in one order: every operation after those that causally precede it, and each read
+  -- after the write that it comes from, with no other write of its cell between the two.
   pub steps : List ℕ
   pub order : Order (historyOf a) p steps
-  -- in it each cell's writes stand as they were stored
+  -- In it each cell's writes stand as they were stored (T-08).
   pub in-turn : InTurn (historyOf a) (λ v w. Before v w steps)
-  -- each reply that finished a read of p's gave the word of the write that the read came from, or blank
+  -- Each reply that finished a read of p's gave the word of the write that the read came from, or blank where it came from none.
   pub shown : (x : ℕ) → ReadBy (historyOf a) p x → Shows (repliedAt a x) (wordOf (historyOf a) (historyOf a x .source))
 
 -- Demand 3 of a rule for events: every set-up that is not refused, every list of events, with any numbers in them, and every desk.

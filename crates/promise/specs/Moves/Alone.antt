@@ -131,7 +131,8 @@ module _ (n : ℕ) (t : Table) (g : Trails) (z : Room t) (p : ℕ) (there : p < 
               (held-cell (cellAt row c) (g p .source c) had)
               (set-here row (g p .source) c cell (from n) (omega (arith, long)) ∙ ap (λ (k : ℕ → ℕ). held (machine.stored n w k)) up)
               (λ b ne.
-              fate-same (keeperOf t) (rows t g) p zeros new b (set-there row (g p .source) c cell (from n) b ne) (λ _ k e. never (k .stamp)))
+              fate-same (keeperOf t) (rows t g) p zeros new b (set-there row (g p .source) c cell (from n) b ne)
+              (λ _ k e. never (k .stamp)))
               (row-is (putBack t after) g' p (put-here t z p there after fits) (changed-here g p b)
               ∙ ap (λ (k : ℕ → ℕ). machine.storing (rows t g p) (machine.stored n w k) new (recordOf t p .served)) up)
               (λ q ne. ap (λ (d : machine.Desk). d .cells) (rest q ne));

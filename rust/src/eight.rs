@@ -1,0 +1,429 @@
+//! Eight desks as eight records in eight threads, with nothing but frames between them.
+//!
+//! [`run`] lets them work; [`check`] holds what they did against a table, against demand 3 and
+//! against the curator's wish that no coordinate stands beside an older datum.
+
+use std::collections::VecDeque;
+use std::sync::atomic::{AtomicBool, AtomicU64, AtomicUsize, Ordering};
+use std::sync::mpsc::{channel, Receiver, Sender};
+use std::thread;
+use std::time::Duration;
+
+use crate::data::{code, kind, slot};
+use crate::gen::Rng;
+use crate::ghost::Ghost;
+use crate::history::{Broken, Causal, Does, History};
+use crate::{frame, Event, Message, Record, Refusal, Reply, Table, CELLS, DESKS};
+
+/// A desk's part and the frames, by whoever makes them.
+pub trait Part {
+    /// Reads, writes or drops; code 1 comes with the request to send.
+    fn event(record: &mut Record, event: &Event) -> (Reply, Message);
+    /// Answers a request.
+    fn serve(record: &mut Record, request: &Message) -> (Reply, Message);
+    /// Receives an answer.
+    fn bring(record: &mut Record, answer: &Message) -> Reply;
+    /// A message and the bytes its frame used, or the number of a refusal.
+    fn read(bytes: &[u8]) -> Result<(Message, usize), u32>;
+    /// The bytes a frame used, or the number of a refusal.
+    fn write(message: &Message, out: &mut [u8]) -> Result<usize, u32>;
+}
+
+/// The part as this library makes it.
+pub struct Twin;
+
+impl Part for Twin {
+    fn event(record: &mut Record, event: &Event) -> (Reply, Message) {
+        record.event(event)
+    }
+
+    fn serve(record: &mut Record, request: &Message) -> (Reply, Message) {
+        record.serve(request)
+    }
+
+    fn bring(record: &mut Record, answer: &Message) -> Reply {
+        record.bring(answer)
+    }
+
+    fn read(bytes: &[u8]) -> Result<(Message, usize), u32> {
+        frame::read(bytes).map_err(number)
+    }
+
+    fn write(message: &Message, out: &mut [u8]) -> Result<usize, u32> {
+        frame::write(message, out).map_err(number)
+    }
+}
+
+fn number(refusal: Refusal) -> u32 {
+    refusal as u32
+}
+
+/// Something that took effect at one desk.
+#[derive(Clone, Debug)]
+pub struct Step {
+    /// Its place among all steps: after the desk's earlier ones, and after the sending of what it
+    /// received.
+    pub at: u64,
+    /// The event, as the table would have it.
+    pub event: Event,
+    /// What the desk was told.
+    pub reply: Reply,
+    /// The record it was done on, afterwards: the keeper's, for a take.
+    pub after: Record,
+}
+
+/// What eight desks did.
+pub struct Run {
+    /// What set-up took.
+    pub keepers: [u32; CELLS],
+    /// All steps in the order in which they took effect.
+    pub steps: Vec<Step>,
+    /// Frames sent.
+    pub frames: usize,
+}
+
+/// Cells come in pairs: a datum, and the coordinate that was measured by it.
+const PAIRS: u32 = 6;
+const CELL_COUNT: u32 = 2 * PAIRS;
+
+fn datum_of(pair: u32) -> u32 {
+    2 * pair
+}
+
+fn coordinate_of(pair: u32) -> u32 {
+    2 * pair + 1
+}
+
+/// All that goes from desk to desk.
+type Frame = Vec<u8>;
+
+/// Lets eight desks do so many events each.
+///
+/// # Panics
+/// If a frame cannot be written or read back, or a message is refused.
+#[must_use]
+pub fn run<P: Part>(seed: u64, turns: usize) -> Run {
+    let mut rng = Rng::new(seed);
+    let keepers: [u32; CELLS] = std::array::from_fn(|_| rng.below(DESKS as u32));
+    let next_step = AtomicU64::new(0);
+    let busy = AtomicUsize::new(DESKS);
+    let alarm = AtomicBool::new(false);
+    let (senders, inboxes): (Vec<Sender<Frame>>, Vec<Receiver<Frame>>) =
+        (0..DESKS).map(|_| channel()).unzip();
+    // All are waited for before any is asked how it went.
+    let results: Vec<thread::Result<(Vec<Step>, usize)>> = thread::scope(|scope| {
+        let threads: Vec<_> = inboxes
+            .into_iter()
+            .zip(0..)
+            .map(|(inbox, desk)| {
+                let record = Record::new(DESKS as u32, CELL_COUNT, &keepers, desk);
+                let seat = Seat {
+                    record: record.expect("a good set-up"),
+                    rng: Rng::new(rng.bits()),
+                    inbox,
+                    senders: senders.clone(),
+                    next_step: &next_step,
+                    busy: &busy,
+                    alarm: Alarm(&alarm),
+                    plan: VecDeque::new(),
+                    words: 0,
+                    log: Vec::new(),
+                    frames: 0,
+                };
+                scope.spawn(move || seat.work::<P>(turns))
+            })
+            .collect();
+        threads.into_iter().map(|thread| thread.join()).collect()
+    });
+    let (logs, frames): (Vec<_>, Vec<_>) = results
+        .into_iter()
+        .map(|result| result.expect("no desk gives up"))
+        .unzip();
+    let mut steps = logs.concat();
+    steps.sort_by_key(|step| step.at);
+    Run {
+        keepers,
+        steps,
+        frames: frames.iter().sum(),
+    }
+}
+
+/// Raised when a desk panics, so that the others do not wait for it.
+struct Alarm<'a>(&'a AtomicBool);
+
+impl Drop for Alarm<'_> {
+    fn drop(&mut self) {
+        self.0.fetch_or(thread::panicking(), Ordering::SeqCst);
+    }
+}
+
+/// One desk at work.
+struct Seat<'a> {
+    record: Record,
+    rng: Rng,
+    inbox: Receiver<Frame>,
+    senders: Vec<Sender<Frame>>,
+    next_step: &'a AtomicU64,
+    /// Desks that still have something to do.
+    busy: &'a AtomicUsize,
+    alarm: Alarm<'a>,
+    /// What its program wants to do next.
+    plan: VecDeque<Event>,
+    /// Words written so far, so that no two writes of the run have the same.
+    words: u32,
+    log: Vec<Step>,
+    frames: usize,
+}
+
+impl Seat<'_> {
+    fn work<P: Part>(mut self, mut turns: usize) -> (Vec<Step>, usize) {
+        let mut arrived: Vec<Frame> = Vec::new();
+        let mut is_done = false;
+        loop {
+            arrived.extend(self.inbox.try_iter());
+            let waits = self.record.slot.kind != slot::EMPTY;
+            if !arrived.is_empty() && self.rng.one_in(2) {
+                // Any of them, so that frames overtake each other.
+                let chosen = self.rng.index(arrived.len());
+                let bytes = arrived.swap_remove(chosen);
+                self.receive::<P>(&bytes);
+            } else if turns > 0 && (!waits || self.rng.one_in(16)) {
+                // Trying again while it waits is refused, and changes nothing.
+                turns -= 1;
+                self.act::<P>();
+            } else if turns == 0 && !waits && !is_done {
+                is_done = true;
+                self.busy.fetch_sub(1, Ordering::SeqCst);
+            } else if is_done && self.busy.load(Ordering::SeqCst) == 0 {
+                // Nobody waits any more, so nothing is under way.
+                return (self.log, self.frames);
+            } else if self.alarm.0.load(Ordering::SeqCst) {
+                return (self.log, self.frames);
+            } else if arrived.is_empty() {
+                arrived.extend(self.inbox.recv_timeout(Duration::from_micros(50)));
+            }
+            match self.rng.below(32) {
+                0 => thread::sleep(Duration::from_micros(self.rng.below(40).into())),
+                1..=8 => thread::yield_now(),
+                _ => {}
+            }
+        }
+    }
+
+    fn act<P: Part>(&mut self) {
+        if self.plan.is_empty() {
+            self.make_plan();
+        }
+        let event = self.plan[0];
+        let at = self.now();
+        let (reply, request) = P::event(&mut self.record, &event);
+        self.note(at, event, reply);
+        if reply.code != Refusal::Waits as u32 {
+            self.plan.pop_front();
+        }
+        if reply.code == code::ASKED {
+            let keeper = self.record.tray.keepers[usize::from(request.cell)];
+            self.send::<P>(keeper, &request);
+        } else {
+            assert_eq!(request, Message::ZERO, "only a request is sent");
+        }
+    }
+
+    fn receive<P: Part>(&mut self, bytes: &[u8]) {
+        let (message, _) = P::read(bytes).expect("frames arrive whole");
+        let at = self.now();
+        let asker = message.desk;
+        let event = |kind| Event {
+            kind,
+            desk: asker.into(),
+            ..Event::default()
+        };
+        if message.kind <= slot::WRITE_ASKED {
+            let (reply, answer) = P::serve(&mut self.record, &message);
+            assert_eq!(reply.code, code::DONE, "a request comes to its keeper");
+            self.note(at, event(kind::TAKE), reply);
+            self.send::<P>(asker, &answer);
+        } else {
+            let reply = P::bring(&mut self.record, &message);
+            let is_done = matches!(reply.code, code::DONE | code::BLANK);
+            assert!(is_done, "an answer comes to the desk that asked");
+            self.note(at, event(kind::BRING), reply);
+        }
+    }
+
+    fn send<P: Part>(&mut self, to: u8, message: &Message) {
+        // Bytes after the frame are allowed, so there are some.
+        let mut bytes = vec![0xEE; frame::LONGEST];
+        let used = P::write(message, &mut bytes).expect("a desk's own message has a frame");
+        bytes.truncate(used + self.rng.index(4));
+        self.frames += 1;
+        // A desk ends only when nobody waits for it, or on alarm.
+        let _ = self.senders[usize::from(to)].send(bytes);
+    }
+
+    fn now(&self) -> u64 {
+        self.next_step.fetch_add(1, Ordering::SeqCst)
+    }
+
+    fn note(&mut self, at: u64, event: Event, reply: Reply) {
+        self.log.push(Step {
+            at,
+            event,
+            reply,
+            after: self.record,
+        });
+    }
+
+    /// Each desk has its own program, made of a few habits.
+    fn make_plan(&mut self) {
+        let pair = self.rng.below(PAIRS);
+        let (datum, coordinate) = (datum_of(pair), coordinate_of(pair));
+        // By desk: measures, measures, copies, looks, looks, corrects, clears up, does anything.
+        let habit = match self.record.desk {
+            0 | 1 => 0,
+            2 => 1,
+            3 | 4 => 2,
+            5 => 3,
+            6 => 4,
+            _ => self.rng.below(5),
+        };
+        match habit {
+            0 => self.plan_writes(&[datum, coordinate]),
+            1 => {
+                self.plan_reads(&[coordinate, datum]);
+                let elsewhere = self.rng.below(PAIRS);
+                self.plan_writes(&[datum_of(elsewhere), coordinate_of(elsewhere)]);
+            }
+            2 => self.plan_reads(&[coordinate, datum, datum]),
+            3 => {
+                self.plan_reads(&[coordinate, datum]);
+                self.plan_writes(&[datum, coordinate]);
+            }
+            _ => {
+                self.plan_reads(&[coordinate, datum]);
+                let gone = self.rng.pick(&[datum, coordinate, CELL_COUNT]);
+                self.plan(kind::DROP, gone, 0);
+            }
+        }
+    }
+
+    fn plan_reads(&mut self, cells: &[u32]) {
+        for &cell in cells {
+            self.plan(kind::READ, cell, 0);
+        }
+    }
+
+    fn plan_writes(&mut self, cells: &[u32]) {
+        for &cell in cells {
+            self.words += 1;
+            let word = u32::from(self.record.desk) << 24 | self.words;
+            self.plan(kind::WRITE, cell, word);
+        }
+    }
+
+    fn plan(&mut self, kind: u32, cell: u32, word: u32) {
+        self.plan.push_back(Event {
+            kind,
+            desk: self.record.desk.into(),
+            cell,
+            word,
+        });
+    }
+}
+
+/// How much a check has looked at.
+#[derive(Clone, Copy, Debug, Default)]
+pub struct Checked {
+    /// Steps replayed; each reply and the record afterwards agreed.
+    pub steps: usize,
+    /// Takes done by a keeper that itself waited.
+    pub served_waiting: usize,
+    /// Finished reads and taken writes.
+    pub operations: usize,
+    /// Reads of a datum by a desk that had seen a coordinate measured by it.
+    pub datums_after_coordinates: usize,
+}
+
+/// Holds a run against the rules.
+///
+/// - A table does the same events in the same order: each reply is the same, and after each step
+///   the record is its desk's row of the table (a slot answered there is still asked in the
+///   record). At the end all records are the rows, and nobody waits.
+/// - Every desk has the line-up of demand 3.
+/// - A coordinate's writer knew versions of its datum: those it had itself written or read before.
+///   Any desk that has read that coordinate never again reads blank, or a version of the datum
+///   that the keeper had stored earlier than the newest of these.
+pub fn check(run: &Run) -> Result<Checked, String> {
+    let mut checked = Checked::default();
+    let mut table = Table::new(DESKS as u32, CELL_COUNT, &run.keepers)
+        .map_err(|refusal| format!("set-up refused: {refusal:?}"))?;
+    let mut ghost = Ghost::new(&table.tray, None);
+    for step in &run.steps {
+        let is_take = step.event.kind == kind::TAKE;
+        let waits = step.after.slot.kind != slot::EMPTY;
+        checked.served_waiting += usize::from(is_take && waits);
+        let reply = table.event(&step.event);
+        if reply != step.reply || reply != ghost.event(&step.event) {
+            return Err(format!("the table replies {reply:?} to {step:?}"));
+        }
+        if !is_row_of(&step.after, &table) {
+            return Err(format!("another record after {step:?}"));
+        }
+        checked.steps += 1;
+    }
+    if let Some(desk) = (0..DESKS).find(|&desk| table.rows[desk].slot.kind != slot::EMPTY) {
+        return Err(format!("desk {desk} still waits"));
+    }
+    checked.operations = ghost.history().len();
+    let causal = Causal::of(ghost.history()).map_err(|broken| format!("{broken:?}"))?;
+    for desk in 0..DESKS as u8 {
+        let no_line_up = |broken: Broken| format!("desk {desk} has no line-up: {broken:?}");
+        causal.line_up(desk).map_err(no_line_up)?;
+    }
+    checked.datums_after_coordinates = no_older_datum(ghost.history())?;
+    Ok(checked)
+}
+
+fn is_row_of(record: &Record, table: &Table) -> bool {
+    let mut row = table.record(record.desk);
+    let is_under_way = row.slot.is_answered()
+        && row.slot.kind == record.slot.kind + slot::ANSWER
+        && row.slot.cell == record.slot.cell;
+    if is_under_way {
+        row.slot = record.slot;
+    }
+    row == *record
+}
+
+/// Counts the reads of a datum that the last rule of [`check`] is about, or names one that breaks
+/// it. Writes stand in the history in the order in which they were taken.
+pub fn no_older_datum(history: &History) -> Result<usize, String> {
+    let mut count = 0;
+    // The newest version of each pair's datum that a desk has written or read, and the newest
+    // that it must see. Versions are places in the history.
+    let mut knows = [[None; PAIRS as usize]; DESKS];
+    let mut must_see = [[None; PAIRS as usize]; DESKS];
+    let mut known_at = vec![None; history.len()];
+    for (place, operation) in history.iter().enumerate() {
+        let desk = usize::from(operation.desk);
+        let pair = usize::from(operation.cell / 2);
+        let is_datum = u32::from(operation.cell) == datum_of(pair as u32);
+        match operation.does {
+            Does::Write if is_datum => knows[desk][pair] = Some(place),
+            Does::Write => known_at[place] = knows[desk][pair],
+            Does::Read(version) if is_datum => {
+                count += usize::from(must_see[desk][pair].is_some());
+                // None is below every version.
+                if version < must_see[desk][pair] {
+                    return Err(format!("an older datum at {place}: {operation:?}"));
+                }
+                knows[desk][pair] = knows[desk][pair].max(version);
+            }
+            Does::Read(coordinate) => {
+                let version = coordinate.and_then(|place| known_at[place]);
+                must_see[desk][pair] = must_see[desk][pair].max(version);
+            }
+        }
+    }
+    Ok(count)
+}

@@ -1,0 +1,667 @@
+//! Seeded, repeatable inputs: runs, sound and unsound tables and records, whole and damaged frames.
+
+use crate::data::{kind, slot};
+use crate::table::Row;
+use crate::{frame, Cell, Clock, Event, Message, Record, Slot, Table, Tray, CELLS, DESKS};
+
+/// A random generator (xorshift64*): the same seed gives the same numbers everywhere.
+#[derive(Clone, Debug)]
+pub struct Rng(u64);
+
+impl Rng {
+    /// Any seed will do, neighbours too: it is scattered first.
+    #[must_use]
+    pub fn new(seed: u64) -> Rng {
+        let mut z = seed.wrapping_add(0x9E37_79B9_7F4A_7C15);
+        z = (z ^ z >> 30).wrapping_mul(0xBF58_476D_1CE4_E5B9);
+        z = (z ^ z >> 27).wrapping_mul(0x94D0_49BB_1331_11EB);
+        // Zero would stay zero.
+        Rng((z ^ z >> 31).max(1))
+    }
+
+    /// The next 64 bits.
+    pub fn bits(&mut self) -> u64 {
+        self.0 ^= self.0 >> 12;
+        self.0 ^= self.0 << 25;
+        self.0 ^= self.0 >> 27;
+        self.0.wrapping_mul(0x2545_F491_4F6C_DD1D)
+    }
+
+    /// A number below `bound`, which is not 0.
+    pub fn below(&mut self, bound: u32) -> u32 {
+        (((self.bits() >> 32) * u64::from(bound)) >> 32) as u32
+    }
+
+    /// An index below `bound`, which is not 0.
+    pub fn index(&mut self, bound: usize) -> usize {
+        self.below(bound as u32) as usize
+    }
+
+    /// True once in `n` times.
+    pub fn one_in(&mut self, n: u32) -> bool {
+        self.below(n) == 0
+    }
+
+    /// One of these.
+    pub fn pick<T: Copy>(&mut self, from: &[T]) -> T {
+        from[self.index(from.len())]
+    }
+
+    /// A number from near an edge, or any.
+    pub fn edgy(&mut self) -> u32 {
+        match self.below(4) {
+            0 => self.below(4),
+            1 => u32::MAX - self.below(3),
+            2 => 1 << self.below(32),
+            _ => self.bits() as u32,
+        }
+    }
+
+    /// A number other than 0.
+    pub fn nonzero(&mut self) -> u32 {
+        self.edgy().max(1)
+    }
+}
+
+/// What set-up takes, good or (once in eight) not.
+pub fn setup(rng: &mut Rng) -> (u32, u32, [u32; CELLS]) {
+    let (desks, cells, mut keepers) = good_setup(rng, 1);
+    match rng.below(32) {
+        0 => (rng.pick(&[0, 9, 255, 256, 257, u32::MAX]), cells, keepers),
+        1 => (desks, rng.pick(&[0, 33, 255, 256, 257, u32::MAX]), keepers),
+        2 | 3 => {
+            // Past the cell count this is ignored.
+            keepers[rng.index(CELLS)] =
+                desks + rng.pick(&[0, 1, 248, 256, u32::MAX - DESKS as u32]);
+            (desks, cells, keepers)
+        }
+        _ => (desks, cells, keepers),
+    }
+}
+
+/// Counts and keepers that set-up accepts, with at least so many desks. Few cells are commoner:
+/// desks meet there.
+pub fn good_setup(rng: &mut Rng, least_desks: u32) -> (u32, u32, [u32; CELLS]) {
+    let desks = least_desks + rng.below(DESKS as u32 + 1 - least_desks);
+    let cells = match rng.below(4) {
+        0 => 1 + rng.below(CELLS as u32),
+        _ => 1 + rng.below(6),
+    };
+    let keepers = std::array::from_fn(|_| rng.below(desks));
+    (desks, cells, keepers)
+}
+
+/// An event with any numbers, most of them near the counts.
+pub fn wild_event(rng: &mut Rng, tray: &Tray) -> Event {
+    Event {
+        kind: match rng.below(12) {
+            0 => rng.edgy(),
+            1 => rng.pick(&[0, 6]),
+            _ => 1 + rng.below(5),
+        },
+        desk: near(rng, tray.desks),
+        cell: near(rng, tray.cells),
+        word: rng.edgy(),
+    }
+}
+
+fn near(rng: &mut Rng, count: u8) -> u32 {
+    match rng.below(12) {
+        0 => u32::from(count),
+        1 => u32::from(count) + 256,
+        2 => rng.edgy(),
+        _ => rng.below(u32::from(count).max(1)),
+    }
+}
+
+/// The temper of a run: how long each desk's messages stay under way, and what desks like to do.
+/// Slow desks make requests pile up, keepers serve while they wait, and answers come late.
+#[derive(Clone, Debug)]
+pub struct Mood {
+    take_one_in: [u32; DESKS],
+    bring_one_in: [u32; DESKS],
+    /// Of sixteen events, at each desk, so many are reads, then so many writes; the others drops.
+    reads: [u32; DESKS],
+    writes: [u32; DESKS],
+    wild_one_in: u32,
+}
+
+impl Mood {
+    /// Any temper.
+    pub fn new(rng: &mut Rng) -> Mood {
+        let mut each = |choices: &[u32]| std::array::from_fn(|_| rng.pick(choices));
+        Mood {
+            take_one_in: each(&[1, 2, 6, 20]),
+            bring_one_in: each(&[1, 3, 10, 30]),
+            reads: each(&[4, 8, 10]),
+            writes: each(&[2, 4, 6]),
+            wild_one_in: rng.pick(&[8, 64]),
+        }
+    }
+
+    /// The next event, where `slot_kind` tells what a desk waits for.
+    pub fn event(&self, rng: &mut Rng, tray: &Tray, slot_kind: impl Fn(usize) -> u8) -> Event {
+        if rng.one_in(self.wild_one_in) {
+            return wild_event(rng, tray);
+        }
+        loop {
+            let desk = rng.index(tray.desks.into());
+            let kind = match slot_kind(desk) {
+                slot::EMPTY => match rng.below(16) {
+                    n if n < self.reads[desk] => kind::READ,
+                    n if n < self.reads[desk] + self.writes[desk] => kind::WRITE,
+                    _ => kind::DROP,
+                },
+                slot::READ_ASKED | slot::WRITE_ASKED if rng.one_in(self.take_one_in[desk]) => {
+                    kind::TAKE
+                }
+                slot::READ_ANSWERED | slot::WRITE_ANSWERED
+                    if rng.one_in(self.bring_one_in[desk]) =>
+                {
+                    kind::BRING
+                }
+                _ => continue,
+            };
+            return Event {
+                kind,
+                desk: desk as u32,
+                cell: rng.below(tray.cells.into()),
+                word: match rng.below(8) {
+                    0 => 0,
+                    1 => rng.edgy(),
+                    _ => 1 + rng.below(1000),
+                },
+            };
+        }
+    }
+
+    /// The next event of this table's run.
+    pub fn event_at(&self, rng: &mut Rng, table: &Table) -> Event {
+        self.event(rng, &table.tray, |desk| table.rows[desk].slot.kind)
+    }
+}
+
+/// A sound table, often one that no run reaches.
+pub fn table(rng: &mut Rng) -> Table {
+    let (desks, cells, keepers) = good_setup(rng, 1);
+    let mut table = Table::new(desks, cells, &keepers).expect("a good set-up");
+    if rng.one_in(2) {
+        let mood = Mood::new(rng);
+        for _ in 0..rng.below(60) {
+            let event = mood.event_at(rng, &table);
+            table.event(&event);
+        }
+        return table;
+    }
+    let tray = table.tray;
+    for (desk, row) in table.rows[..desks as usize].iter_mut().enumerate() {
+        *row = sound_row(rng, &tray, desk as u8);
+    }
+    table
+}
+
+/// A sound record, often one that no run reaches.
+pub fn record(rng: &mut Rng) -> Record {
+    let table = table(rng);
+    let mut record = table.record(rng.below(u32::from(table.tray.desks)) as u8);
+    if record.slot.is_answered() {
+        // Back to the request, as the desk itself still has it.
+        record.slot.kind -= slot::ANSWER;
+        if record.slot.kind == slot::READ_ASKED {
+            (record.slot.word, record.slot.clock) = (0, Clock::ZERO);
+        }
+    }
+    record
+}
+
+fn sound_row(rng: &mut Rng, tray: &Tray, desk: u8) -> Row {
+    let mut row = Row {
+        clock: clock(rng, tray.desks),
+        ..Row::UNUSED
+    };
+    if rng.one_in(6) {
+        // On either side of the last number there is.
+        row.clock.n[usize::from(desk)] = u32::MAX - rng.below(2);
+    }
+    let cells = usize::from(tray.cells);
+    for (cell, &keeper) in row.cells[..cells].iter_mut().zip(&tray.keepers) {
+        if keeper == desk || rng.one_in(2) {
+            *cell = Cell {
+                held: true,
+                word: rng.edgy(),
+                stamp: clock(rng, tray.desks),
+            };
+        }
+    }
+    let cell = rng.below(u32::from(tray.cells)) as u8;
+    if tray.keepers[usize::from(cell)] != desk && rng.one_in(2) {
+        row.served = rng.one_in(2);
+        row.slot = Slot {
+            kind: 1 + rng.below(4) as u8,
+            cell,
+            ..Slot::EMPTY
+        };
+        if row.slot.kind != slot::READ_ASKED {
+            (row.slot.word, row.slot.clock) = (rng.edgy(), clock(rng, tray.desks));
+        }
+    }
+    row
+}
+
+/// A clock of so many desks: small numbers, so that before, equal and beside all happen, or edges.
+pub fn clock(rng: &mut Rng, desks: u8) -> Clock {
+    let mut clock = Clock::ZERO;
+    let edges = rng.one_in(4);
+    for number in &mut clock.n[..usize::from(desks)] {
+        *number = if edges { rng.edgy() } else { rng.below(3) };
+    }
+    clock
+}
+
+/// A way to break one field of a sound table. It says whether it could, as not every table has
+/// the field to break.
+pub type Break = fn(&mut Rng, &mut Table) -> bool;
+
+/// Every kind of field of a table, broken in turn, each so that the table is no longer sound.
+pub const BREAKS: &[(&str, Break)] = &[
+    ("no desks", |_, t| set(&mut t.tray.desks, 0)),
+    ("too many desks", |rng, t| {
+        set(&mut t.tray.desks, 9 + rng.below(247) as u8)
+    }),
+    ("no cells", |_, t| set(&mut t.tray.cells, 0)),
+    ("too many cells", |rng, t| {
+        set(&mut t.tray.cells, 33 + rng.below(223) as u8)
+    }),
+    ("a keeper is no desk", |rng, t| {
+        let desks = t.tray.desks;
+        let cell = rng.index(t.tray.cells.into());
+        set(
+            &mut t.tray.keepers[cell],
+            desks + rng.below(256 - u32::from(desks)) as u8,
+        )
+    }),
+    ("a keeper past the count", |rng, t| {
+        past(rng, t.tray.cells, CELLS)
+            .is_some_and(|cell| set(&mut t.tray.keepers[cell], 1 + rng.below(255) as u8))
+    }),
+    ("a keeper without its cell", |rng, t| {
+        let cell = rng.index(t.tray.cells.into());
+        let keeper = usize::from(t.tray.keepers[cell]);
+        set(&mut t.rows[keeper].cells[cell], Cell::NONE)
+    }),
+    ("a clock number past the count", |rng, t| {
+        let number = past(rng, t.tray.desks, DESKS);
+        let desk = present(rng, t);
+        number.is_some_and(|n| set(&mut t.rows[desk].clock.n[n], rng.nonzero()))
+    }),
+    ("a stamp number past the count", |rng, t| {
+        let cell = rng.index(t.tray.cells.into());
+        let keeper = usize::from(t.tray.keepers[cell]);
+        past(rng, t.tray.desks, DESKS)
+            .is_some_and(|n| set(&mut t.rows[keeper].cells[cell].stamp.n[n], rng.nonzero()))
+    }),
+    ("a slot's number past the count", |rng, t| {
+        let number = past(rng, t.tray.desks, DESKS);
+        waiting(rng, t, &[2, 3, 4])
+            .zip(number)
+            .is_some_and(|(d, n)| set(&mut t.rows[d].slot.clock.n[n], rng.nonzero()))
+    }),
+    ("a held cell past the count", |rng, t| {
+        let desk = present(rng, t);
+        past(rng, t.tray.cells, CELLS).is_some_and(|c| set(&mut t.rows[desk].cells[c].held, true))
+    }),
+    ("a word past the count", |rng, t| {
+        let desk = present(rng, t);
+        past(rng, t.tray.cells, CELLS)
+            .is_some_and(|c| set(&mut t.rows[desk].cells[c].word, rng.nonzero()))
+    }),
+    ("a stamp past the count", |rng, t| {
+        let desk = present(rng, t);
+        past(rng, t.tray.cells, CELLS).is_some_and(|c| {
+            set(
+                &mut t.rows[desk].cells[c].stamp.n[rng.index(DESKS)],
+                rng.nonzero(),
+            )
+        })
+    }),
+    ("a word not held", |rng, t| {
+        not_held(rng, t).is_some_and(|(d, c)| set(&mut t.rows[d].cells[c].word, rng.nonzero()))
+    }),
+    ("a stamp not held", |rng, t| {
+        let number = present(rng, t);
+        not_held(rng, t)
+            .is_some_and(|(d, c)| set(&mut t.rows[d].cells[c].stamp.n[number], rng.nonzero()))
+    }),
+    ("a slot of no kind", |rng, t| {
+        let desk = rng.index(DESKS);
+        set(&mut t.rows[desk].slot.kind, 5 + rng.below(251) as u8)
+    }),
+    ("a slot's cell out of range", |rng, t| {
+        let cells = u32::from(t.tray.cells);
+        waiting(rng, t, &[1, 2, 3, 4]).is_some_and(|d| {
+            set(
+                &mut t.rows[d].slot.cell,
+                (cells + rng.below(256 - cells)) as u8,
+            )
+        })
+    }),
+    ("a slot's cell kept by its desk", |rng, t| {
+        let cell = rng.index(t.tray.cells.into());
+        let keeper = usize::from(t.tray.keepers[cell]);
+        t.rows[keeper].slot = Slot {
+            kind: 1 + rng.below(4) as u8,
+            cell: cell as u8,
+            ..Slot::EMPTY
+        };
+        true
+    }),
+    ("an empty slot's cell", |rng, t| {
+        waiting(rng, t, &[0])
+            .is_some_and(|d| set(&mut t.rows[d].slot.cell, 1 + rng.below(255) as u8))
+    }),
+    ("an empty slot's word", |rng, t| {
+        waiting(rng, t, &[0]).is_some_and(|d| set(&mut t.rows[d].slot.word, rng.nonzero()))
+    }),
+    ("an empty slot's clock", |rng, t| {
+        let number = present(rng, t);
+        waiting(rng, t, &[0])
+            .is_some_and(|d| set(&mut t.rows[d].slot.clock.n[number], rng.nonzero()))
+    }),
+    ("a read asked with a word", |rng, t| {
+        waiting(rng, t, &[1]).is_some_and(|d| set(&mut t.rows[d].slot.word, rng.nonzero()))
+    }),
+    ("a read asked with a clock", |rng, t| {
+        let number = present(rng, t);
+        waiting(rng, t, &[1])
+            .is_some_and(|d| set(&mut t.rows[d].slot.clock.n[number], rng.nonzero()))
+    }),
+    ("served without waiting", |rng, t| {
+        waiting(rng, t, &[0]).is_some_and(|d| set(&mut t.rows[d].served, true))
+    }),
+    ("an absent desk's clock", |rng, t| {
+        past(rng, t.tray.desks, DESKS)
+            .is_some_and(|d| set(&mut t.rows[d].clock.n[rng.index(DESKS)], rng.nonzero()))
+    }),
+    ("an absent desk's held cell", |rng, t| {
+        past(rng, t.tray.desks, DESKS)
+            .is_some_and(|d| set(&mut t.rows[d].cells[rng.index(CELLS)].held, true))
+    }),
+    ("an absent desk's word", |rng, t| {
+        past(rng, t.tray.desks, DESKS)
+            .is_some_and(|d| set(&mut t.rows[d].cells[rng.index(CELLS)].word, rng.nonzero()))
+    }),
+    ("an absent desk's stamp", |rng, t| {
+        past(rng, t.tray.desks, DESKS).is_some_and(|d| {
+            let stamp = &mut t.rows[d].cells[rng.index(CELLS)].stamp;
+            set(&mut stamp.n[rng.index(DESKS)], rng.nonzero())
+        })
+    }),
+    ("an absent desk's slot kind", |rng, t| {
+        past(rng, t.tray.desks, DESKS)
+            .is_some_and(|d| set(&mut t.rows[d].slot.kind, 1 + rng.below(4) as u8))
+    }),
+    ("an absent desk's slot cell", |rng, t| {
+        past(rng, t.tray.desks, DESKS)
+            .is_some_and(|d| set(&mut t.rows[d].slot.cell, 1 + rng.below(31) as u8))
+    }),
+    ("an absent desk's slot word", |rng, t| {
+        past(rng, t.tray.desks, DESKS).is_some_and(|d| set(&mut t.rows[d].slot.word, rng.nonzero()))
+    }),
+    ("an absent desk's slot clock", |rng, t| {
+        past(rng, t.tray.desks, DESKS)
+            .is_some_and(|d| set(&mut t.rows[d].slot.clock.n[rng.index(DESKS)], rng.nonzero()))
+    }),
+    ("an absent desk served", |rng, t| {
+        past(rng, t.tray.desks, DESKS).is_some_and(|d| set(&mut t.rows[d].served, true))
+    }),
+];
+
+/// Breaks one field of a sound record so that it is no longer sound: the number of the desk, an
+/// answered slot, or a field that its table could have had broken. Says which.
+pub fn break_record(rng: &mut Rng, record: &mut Record) -> &'static str {
+    loop {
+        match rng.below(12) {
+            0 => {
+                let desks = record.tray.desks;
+                record.desk = desks + rng.below(256 - u32::from(desks)) as u8;
+                return "a number that is no desk";
+            }
+            1 if record.slot.is_asked() => {
+                record.slot.kind += slot::ANSWER;
+                return "an answered slot";
+            }
+            _ => {
+                // In a table with this desk alone in it, what breaks the row breaks the record.
+                let desk = usize::from(record.desk);
+                let mut table = around(record);
+                let (name, broken) = rng.pick(BREAKS);
+                if broken(rng, &mut table) {
+                    let damaged = Record {
+                        tray: table.tray,
+                        ..table.record(desk as u8)
+                    };
+                    if damaged != *record {
+                        *record = damaged;
+                        return name;
+                    }
+                }
+            }
+        }
+    }
+}
+
+/// A table whose row for the record's desk is the record, and all others fresh.
+fn around(record: &Record) -> Table {
+    let tray = &record.tray;
+    let keepers = tray.keepers.map(u32::from);
+    let mut table =
+        Table::new(tray.desks.into(), tray.cells.into(), &keepers).expect("a sound record");
+    table.rows[usize::from(record.desk)] = Row {
+        clock: record.clock,
+        cells: record.row,
+        slot: record.slot,
+        served: record.served,
+    };
+    table
+}
+
+/// Sets one field anywhere in the table, used or not, to any value. The table may stay sound.
+pub fn scramble(rng: &mut Rng, table: &mut Table) {
+    let byte = rng.edgy() as u8;
+    let word = rng.edgy();
+    let row = &mut table.rows[rng.index(DESKS)];
+    let cell = &mut row.cells[rng.index(CELLS)];
+    let number = rng.index(DESKS);
+    match rng.below(12) {
+        0 => table.tray.desks = byte,
+        1 => table.tray.cells = byte,
+        2 => table.tray.keepers[rng.index(CELLS)] = byte,
+        3 => row.clock.n[number] = word,
+        4 => cell.held = !cell.held,
+        5 => cell.word = word,
+        6 => cell.stamp.n[number] = word,
+        7 => row.slot.kind = byte % 6,
+        8 => row.slot.cell = byte,
+        9 => row.slot.word = word,
+        10 => row.slot.clock.n[number] = word,
+        _ => row.served = !row.served,
+    }
+}
+
+/// How many fields a table has, each number of a clock counted.
+pub const FIELDS: usize = 2 + CELLS + DESKS * ROW_FIELDS;
+const ROW_FIELDS: usize = DESKS + 3 + DESKS + 1 + CELLS * CELL_FIELDS;
+const CELL_FIELDS: usize = 2 + DESKS;
+
+/// Sets the field of this number, below [`FIELDS`], to as much of `value` as it has room for.
+pub fn poke(table: &mut Table, field: usize, value: u32) {
+    let (byte, flag) = (value as u8, value & 1 == 1);
+    match field {
+        0 => return table.tray.desks = byte,
+        1 => return table.tray.cells = byte,
+        _ => {}
+    }
+    let field = field - 2;
+    if field < CELLS {
+        return table.tray.keepers[field] = byte;
+    }
+    let field = field - CELLS;
+    let row = &mut table.rows[field / ROW_FIELDS];
+    match field % ROW_FIELDS {
+        n @ 0..8 => row.clock.n[n] = value,
+        8 => row.slot.kind = byte,
+        9 => row.slot.cell = byte,
+        10 => row.slot.word = value,
+        n @ 11..19 => row.slot.clock.n[n - 11] = value,
+        19 => row.served = flag,
+        rest => {
+            let cell = &mut row.cells[(rest - 20) / CELL_FIELDS];
+            match (rest - 20) % CELL_FIELDS {
+                0 => cell.held = flag,
+                1 => cell.word = value,
+                n => cell.stamp.n[n - 2] = value,
+            }
+        }
+    }
+}
+
+fn set<T: PartialEq>(field: &mut T, value: T) -> bool {
+    let other = *field != value;
+    *field = value;
+    other
+}
+
+/// A place past the count, if there is one.
+fn past(rng: &mut Rng, count: u8, room: usize) -> Option<usize> {
+    let count = usize::from(count);
+    (count < room).then(|| count + rng.index(room - count))
+}
+
+/// A desk that is there.
+fn present(rng: &mut Rng, table: &Table) -> usize {
+    rng.index(table.tray.desks.into())
+}
+
+/// A desk that is there with a slot of one of these kinds, if there is one.
+fn waiting(rng: &mut Rng, table: &Table, kinds: &[u8]) -> Option<usize> {
+    some(rng, 0..table.tray.desks.into(), |&desk| {
+        kinds.contains(&table.rows[desk].slot.kind)
+    })
+}
+
+/// A desk and a cell that are there, the cell not held, if there are any.
+fn not_held(rng: &mut Rng, table: &Table) -> Option<(usize, usize)> {
+    let cells = usize::from(table.tray.cells);
+    let places = 0..usize::from(table.tray.desks) * cells;
+    some(rng, places, |&place| {
+        !table.rows[place / cells].cells[place % cells].held
+    })
+    .map(|place| (place / cells, place % cells))
+}
+
+/// One of those that pass, each as likely.
+fn some<T>(rng: &mut Rng, from: impl Iterator<Item = T>, pass: impl Fn(&T) -> bool) -> Option<T> {
+    let mut passed: Vec<T> = from.filter(pass).collect();
+    if passed.is_empty() {
+        return None;
+    }
+    let chosen = rng.index(passed.len());
+    Some(passed.swap_remove(chosen))
+}
+
+/// A message that has a frame.
+pub fn message(rng: &mut Rng) -> Message {
+    let desks = 2 + rng.below(7) as u8;
+    let kind = 1 + rng.below(4) as u8;
+    let mut message = Message {
+        kind,
+        desks,
+        desk: rng.below(desks.into()) as u8,
+        cell: rng.below(CELLS as u32) as u8,
+        ..Message::ZERO
+    };
+    if kind != slot::READ_ASKED {
+        (message.word, message.clock) = (rng.edgy(), clock(rng, desks));
+    }
+    message
+}
+
+/// A message with a field or two that may be wrong.
+pub fn any_message(rng: &mut Rng) -> Message {
+    let mut message = message(rng);
+    for _ in 0..rng.below(3) {
+        let byte = rng.edgy() as u8;
+        match rng.below(6) {
+            0 => message.kind = byte,
+            1 => message.desks = byte,
+            2 => message.desk = byte,
+            3 => message.cell = byte,
+            4 => message.word = rng.edgy(),
+            _ => message.clock.n[rng.index(DESKS)] = rng.edgy(),
+        }
+    }
+    message
+}
+
+/// A message that fits this record, sound or not, or nearly: one in four has a field changed.
+pub fn message_for(rng: &mut Rng, record: &Record) -> Message {
+    let tray = &record.tray;
+    let desks = tray.desks.clamp(1, DESKS as u8);
+    let cells = tray.cells.clamp(1, CELLS as u8);
+    let kept = some(rng, 0..cells, |&cell| {
+        tray.keepers[usize::from(cell)] == record.desk
+    });
+    let another = u32::from(record.desk) + 1 + rng.below(u32::from(desks).max(2) - 1);
+    let mut message = Message {
+        kind: 1 + rng.below(2) as u8,
+        desks: tray.desks,
+        desk: another as u8 % desks,
+        cell: kept.unwrap_or_else(|| rng.below(cells.into()) as u8),
+        word: rng.edgy(),
+        clock: clock(rng, desks),
+    };
+    if record.slot.is_asked() && rng.one_in(2) {
+        message.kind = record.slot.kind + slot::ANSWER;
+        message.desk = record.desk;
+        message.cell = record.slot.cell;
+    }
+    if rng.one_in(4) {
+        let small = rng.below(10) as u8;
+        match rng.below(6) {
+            0 => message.kind = small,
+            1 => message.desks = small,
+            2 => message.desk = small,
+            3 => message.cell = rng.edgy() as u8,
+            4 => message.word = 0,
+            _ => message.clock.n[rng.index(DESKS)] = rng.edgy(),
+        }
+    }
+    message
+}
+
+/// A frame, whole.
+pub fn whole_frame(rng: &mut Rng) -> Vec<u8> {
+    let mut bytes = vec![0; frame::LONGEST];
+    let used = frame::write(&message(rng), &mut bytes).expect("a well-formed message");
+    bytes.truncate(used);
+    bytes
+}
+
+/// A frame with bytes changed, missing or added, or nothing but noise.
+pub fn damaged_frame(rng: &mut Rng) -> Vec<u8> {
+    let mut bytes = whole_frame(rng);
+    for _ in 0..=rng.below(3) {
+        match rng.below(5) {
+            0 => bytes.truncate(rng.index(bytes.len() + 1)),
+            1 => bytes.extend((0..rng.below(9)).map(|_| 0)),
+            2 => bytes = (0..rng.below(50)).map(|_| rng.edgy() as u8).collect(),
+            // The head is where most refusals are.
+            _ if !bytes.is_empty() => {
+                let place = rng.index(bytes.len().min(8));
+                bytes[place] = rng.edgy() as u8;
+            }
+            _ => {}
+        }
+    }
+    bytes
+}

@@ -1,0 +1,147 @@
+//! One desk's record: its events, serving a request and bringing an answer.
+
+use crate::data::{code, kind, slot};
+use crate::rules::{Rules, State};
+use crate::{Cell, Clock, Event, Message, Refusal, Reply, Slot, Tray, CELLS};
+
+/// The record of one desk.
+#[repr(C)]
+#[derive(Clone, Copy, Debug, Default, PartialEq, Eq)]
+pub struct Record {
+    /// The counts and keepers.
+    pub tray: Tray,
+    /// The desk's number.
+    pub desk: u8,
+    /// Its clock.
+    pub clock: Clock,
+    /// The cells as it has them.
+    pub row: [Cell; CELLS],
+    /// What it waits for: a request stays here until its answer is brought.
+    pub slot: Slot,
+    /// Whether it served a write since it began to wait.
+    pub served: bool,
+}
+
+impl Record {
+    /// The record of a desk before its first event, or 20, 21, 22, or 10 for a number that is no desk.
+    pub fn new(
+        desks: u32,
+        cells: u32,
+        keepers: &[u32; CELLS],
+        desk: u32,
+    ) -> Result<Record, Refusal> {
+        let tray = Tray::new(desks, cells, keepers)?;
+        if desk >= desks {
+            return Err(Refusal::Desk);
+        }
+        let mut record = Record {
+            tray,
+            desk: desk as u8,
+            ..Record::default()
+        };
+        for (cell, &keeper) in record.row.iter_mut().zip(&tray.keepers[..cells as usize]) {
+            cell.held = u32::from(keeper) == desk;
+        }
+        Ok(record)
+    }
+
+    /// Whether this is a record that some desk of the tray could lend.
+    #[must_use]
+    pub fn is_sound(&self) -> bool {
+        let state = State {
+            clock: &self.clock,
+            row: &self.row,
+            slot: &self.slot,
+            served: self.served,
+        };
+        self.tray.is_sound()
+            && self.desk < self.tray.desks
+            && !self.slot.is_answered()
+            && state.is_sound(&self.tray, self.desk)
+    }
+
+    /// Reads, writes or drops, whatever desk the event names. Code 1 comes with the request to send.
+    pub fn event(&mut self, event: &Event) -> (Reply, Message) {
+        match self.try_event(event) {
+            Ok(reply) if reply.code == code::ASKED => {
+                (reply, Message::of(&self.slot, self.tray.desks, self.desk))
+            }
+            Ok(reply) => (reply, Message::ZERO),
+            Err(refusal) => (refusal.into(), Message::ZERO),
+        }
+    }
+
+    /// Answers another desk's request for a cell kept here.
+    pub fn serve(&mut self, request: &Message) -> (Reply, Message) {
+        match self.try_serve(request) {
+            Ok(done) => done,
+            Err(refusal) => (refusal.into(), Message::ZERO),
+        }
+    }
+
+    /// Receives the answer to what was asked.
+    pub fn bring(&mut self, answer: &Message) -> Reply {
+        self.try_bring(answer).unwrap_or_else(Reply::from)
+    }
+
+    fn try_event(&mut self, event: &Event) -> Result<Reply, Refusal> {
+        self.check()?;
+        if !matches!(event.kind, kind::READ | kind::WRITE | kind::DROP) {
+            return Err(Refusal::Kind);
+        }
+        self.rules().event(event)
+    }
+
+    fn try_serve(&mut self, request: &Message) -> Result<(Reply, Message), Refusal> {
+        self.check()?;
+        let fits = self.fits(request)
+            && matches!(request.kind, slot::READ_ASKED | slot::WRITE_ASKED)
+            && request.desk != self.desk
+            && request.desk < self.tray.desks
+            && self.tray.keeps(self.desk, request.cell);
+        if !fits {
+            return Err(Refusal::Unfit);
+        }
+        let (reply, answer) = self.rules().serve(&request.slot());
+        Ok((reply, Message::of(&answer, request.desks, request.desk)))
+    }
+
+    fn try_bring(&mut self, answer: &Message) -> Result<Reply, Refusal> {
+        self.check()?;
+        if self.slot.kind == slot::EMPTY {
+            return Err(Refusal::Nothing);
+        }
+        let fits = self.fits(answer)
+            && answer.desk == self.desk
+            && answer.cell == self.slot.cell
+            && answer.kind == self.slot.kind + slot::ANSWER;
+        if !fits {
+            return Err(Refusal::Unfit);
+        }
+        Ok(self.rules().bring(&answer.slot()))
+    }
+
+    fn check(&self) -> Result<(), Refusal> {
+        if self.is_sound() {
+            Ok(())
+        } else {
+            Err(Refusal::Unsound)
+        }
+    }
+
+    /// What a request and an answer both need to fit.
+    fn fits(&self, message: &Message) -> bool {
+        message.desks == self.tray.desks && message.clock.fits(self.tray.desks as usize)
+    }
+
+    fn rules(&mut self) -> Rules<'_> {
+        Rules {
+            tray: &self.tray,
+            desk: self.desk,
+            clock: &mut self.clock,
+            row: &mut self.row,
+            slot: &mut self.slot,
+            served: &mut self.served,
+        }
+    }
+}

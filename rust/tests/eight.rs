@@ -1,0 +1,104 @@
+//! Eight desks in eight threads; and what is made of desks that do not keep to the rules.
+
+use twin::eight::{check, no_older_datum, run, Checked, Part, Twin};
+use twin::ghost::{Ghost, Shortcut};
+use twin::{Event, Message, Record, Refusal, Reply, Tray};
+
+#[test]
+fn eight_desks_do_what_the_table_does() {
+    let mut sum = Checked::default();
+    for seed in 0..40 {
+        let run = run::<Twin>(seed, 150);
+        let checked = check(&run).unwrap_or_else(|why| panic!("seed {seed}: {why}"));
+        sum.steps += checked.steps;
+        sum.served_waiting += checked.served_waiting;
+        sum.operations += checked.operations;
+        sum.datums_after_coordinates += checked.datums_after_coordinates;
+    }
+    println!("{sum:?}");
+    assert!(
+        sum.served_waiting > 1_000 && sum.datums_after_coordinates > 1_000,
+        "{sum:?}"
+    );
+}
+
+/// A part that keeps an answer although it served a write meanwhile.
+struct KeepsServed;
+
+impl Part for KeepsServed {
+    fn event(record: &mut Record, event: &Event) -> (Reply, Message) {
+        Twin::event(record, event)
+    }
+
+    fn serve(record: &mut Record, request: &Message) -> (Reply, Message) {
+        Twin::serve(record, request)
+    }
+
+    fn bring(record: &mut Record, answer: &Message) -> Reply {
+        record.served = false;
+        Twin::bring(record, answer)
+    }
+
+    fn read(bytes: &[u8]) -> Result<(Message, usize), u32> {
+        Twin::read(bytes)
+    }
+
+    fn write(message: &Message, out: &mut [u8]) -> Result<usize, u32> {
+        Twin::write(message, out)
+    }
+}
+
+#[test]
+fn desks_that_keep_what_they_should_not_are_found_out() {
+    // Threads are not repeatable, so this goes on until it is seen.
+    let mut disagreed = 0;
+    let found = (0..3_000).find(|&seed| {
+        let run = run::<KeepsServed>(seed, 150);
+        disagreed += u64::from(check(&run).is_err());
+        // Played by the same wrong rule the replies agree, and only the curator notices.
+        let tray = Tray::new(8, 12, &run.keepers).expect("a good set-up");
+        let mut ghost = Ghost::new(&tray, Some(Shortcut::KeepServed));
+        for step in &run.steps {
+            assert_eq!(
+                ghost.event(&step.event),
+                step.reply,
+                "seed {seed}: {step:?}"
+            );
+        }
+        no_older_datum(ghost.history()).is_err()
+    });
+    println!("the table disagreed in {disagreed} runs; an older datum at seed {found:?}");
+    assert!(found.is_some_and(|seed| disagreed >= seed / 2));
+    assert!(disagreed > 0);
+}
+
+/// A part that serves nobody.
+struct ServesNobody;
+
+impl Part for ServesNobody {
+    fn event(record: &mut Record, event: &Event) -> (Reply, Message) {
+        Twin::event(record, event)
+    }
+
+    fn serve(_: &mut Record, _: &Message) -> (Reply, Message) {
+        (Refusal::Unfit.into(), Message::ZERO)
+    }
+
+    fn bring(record: &mut Record, answer: &Message) -> Reply {
+        Twin::bring(record, answer)
+    }
+
+    fn read(bytes: &[u8]) -> Result<(Message, usize), u32> {
+        Twin::read(bytes)
+    }
+
+    fn write(message: &Message, out: &mut [u8]) -> Result<usize, u32> {
+        Twin::write(message, out)
+    }
+}
+
+#[test]
+#[should_panic(expected = "no desk gives up")]
+fn a_desk_that_gives_up_ends_the_run() {
+    let _ = run::<ServesNobody>(1, 150);
+}
