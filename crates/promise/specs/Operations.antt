@@ -52,8 +52,10 @@ entry n g t e r =
     (cond (eqb (e .kind) 3 && eqb (r .code) 0)
     (wrote p (s .cell) (s .word) (g p .asked), changed (changed g k (holding (g k) (s .cell) (from n))) p (answered (g p) (from n)))
     -- a bring: an asked read is finished, or the answer to a write has arrived
-    (cond (eqb (e .kind) 4 && finished)
-    (cond (eqb (s .kind) 3) (showed p (s .cell) (r .value) (g p .answer) (g p .asked)) nothing, changed g p (holding (g p) (s .cell) (g p .answer)))
+    (cond (eqb (e .kind) 4 && finished) (
+      cond (eqb (s .kind) 3) (showed p (s .cell) (r .value) (g p .answer) (g p .asked)) nothing,
+      changed g p (holding (g p) (s .cell) (g p .answer)),
+    )
     -- a drop, or a refusal
     (nothing, g))))))
 

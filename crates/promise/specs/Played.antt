@@ -32,6 +32,6 @@ unfoldable pub played : (rule : Table → Event → Outcome) → (desks cells : 
 unfolding run next entry changed either ℕ-discrete decLt decLe paired merged isBefore isWithin raised keeps isCopy isBlank
     isLost leftOf lossOf waits readRule writeRule dropRule eventDone readServed takes writeServed serveDone brings bringDone keeperSound
     traySound cellSound cellsSound slotNames slotCarries slotSound rowSound mapAt sum every some isOwn isAsked isAnswered refusal outcome
-    messageOf ownRule served takeRule bringRule done unless eventRule keepersRight freshTray freshTable setUpRefusal answerSetUp setUpRule cellZero
-    slotZero rowZero deskSound tableSound recordOf putBack withSlotOf
+    messageOf ownRule served takeRule bringRule done unless eventRule keepersRight freshTray freshTable setUpRefusal answerSetUp setUpRule
+    cellZero slotZero rowZero deskSound tableSound recordOf putBack withSlotOf
 played rule desks cells keepers events = run rule (opened (setUpRule desks cells keepers .table)) events

@@ -3,7 +3,7 @@
 -- Assumes nothing.
 use mathlib.Core.Path.{_≡_, refl, ap, subst}
 use mathlib.Core.Bool.{false, _&&_, cond}
-use mathlib.Core.Logic.{inl, inr}
+use mathlib.Core.Logic.{inl, inr, ⊎-elim}
 use mathlib.Core.List.{List, [], _∷_}
 use Prim.Native.Nat.{ℕ}
 use native.Mathlib.Decide.{ℕ-discrete}
@@ -12,7 +12,7 @@ use borrow.Author.Tests.{ne-eqb}
 use lib.Dec.{eqb}
 use lib.ListN.{length, replicate}
 use Rattle.causal.specs.Accident.{then, late, through}
-use Rattle.causal.specs.Demand.{Before, Nearest, Order, InTurn}
+use Rattle.causal.specs.Demand.{Before, Nearest, Order}
 use Rattle.causal.specs.History.{blank, from, Step, nothing, wrote, showed, listed, wordOf, shown, chain}
 use Rattle.clock.specs.Clock.{merged}
 use Rattle.desk.specs.declared.Event.{Event}
@@ -60,14 +60,13 @@ unfoldable pub leavesCopy : Record → Message → Record
 leavesCopy v m = cond (eqb (m .kind) 4 && v .served) (holds (brings v m) (m .cell) (cellAt (v .row) (m .cell))) (brings v m)
 
 -- ---- a run whose history has no order for desk p
-module _ (rule : Table → Event → Outcome) (keepers : List ℕ) (events : List Event) (h : List Step) (desks p : ℕ) where
-  broken : length keepers ≡ 32 → setUpRule desks 2 keepers .code ≡ 0 → played rule desks 2 keepers events .history ≡ h
-      → ((l : List ℕ) → Order (listed h) p l → InTurn (listed h) (λ v w. Before v w l) → ⊥) → Demand3 rule → ⊥
+module _ (rule : Table → Event → Outcome) (keepers : List ℕ) (events : List Event) (h : List Step) (desks cells p : ℕ) where
+  broken : length keepers ≡ 32 → setUpRule desks cells keepers .code ≡ 0 → played rule desks cells keepers events .history ≡ h
+      → ((l : List ℕ) → Order (listed h) p l → ⊥) → Demand3 rule → ⊥
   unfolding played
   broken long ok is none d =
-      let x = d desks 2 keepers long ok events p in
+      let x = d desks cells keepers long ok events p in
       none (x .steps) (subst (λ (a : List Step). Order (listed a) p (x .steps)) is (x .order))
-      (subst (λ (a : List Step). InTurn (listed a) (λ v w. Before v w (x .steps))) is (x .in-turn))
 
 -- 01's whole case: desk 0 holds the blank datum of its first answer, sees coordinate 500, and reads the blank again.
 unfoldable pub first : List Step
@@ -78,34 +77,37 @@ first =
 pub keeps-served-breaks : Demand3 (withBring keepsServed) → ⊥
 unfolding played withBring keepsServed script first
 keeps-served-breaks =
-    broken (withBring keepsServed) (1 ∷ 0 ∷ replicate 30 0) script first 3 0 refl refl refl
-    (λ l o t.
+    broken (withBring keepsServed) (1 ∷ 0 ∷ replicate 30 0) script first 3 2 0 refl refl refl
+    (λ l o.
     late o 3 10 (refl, refl) (refl, refl) refl
     (chain (chain (then (listed first) 3 6 (inl refl) (inl refl) refl (omega arith)) (shown {w = 6} {x = 9} refl refl refl))
     (then (listed first) 9 10 (inr refl) (inr refl) refl (omega arith))))
 
--- Desk 0 keeps both cells. Desk 1 has a blank copy of the datum; desk 0 writes datum 27 and then coordinate 500; desk 1 overwrites the
--- coordinate and still reads its blank. As each cell's writes stand in the order stored, its write comes after 500, and so after 27.
+-- Desk 0 keeps the datum and the coordinate, desk 1 a third cell. Desk 1 has a blank copy of the datum; desk 0 writes datum 11 and coordinate
+-- 12, and asks to write the third cell. Desk 1 overwrites the coordinate, still reads its blank, and then stores and reads the third cell and
+-- its own coordinate 14. What it read tells that 12 came before 14, and so 11 before the blank.
 unfoldable pub second : List Step
 second =
-    nothing ∷ nothing ∷ showed 1 0 0 blank 0 ∷ wrote 0 0 27 3 ∷ wrote 0 1 500 4 ∷ nothing ∷ wrote 1 1 501 5 ∷ nothing
-    ∷ showed 1 0 0 blank 8 ∷ []
+    nothing ∷ nothing ∷ showed 1 0 0 blank 0 ∷ wrote 0 0 11 3 ∷ wrote 0 1 12 4 ∷ nothing ∷ nothing ∷ wrote 1 1 14 6 ∷ nothing
+    ∷ showed 1 0 0 blank 9 ∷ wrote 0 2 13 5 ∷ showed 1 2 13 (from 10) 11 ∷ showed 1 1 14 (from 7) 12 ∷ []
 
 pub drops-nothing-breaks : Demand3 (withBring dropsNothing) → ⊥
 unfolding played withBring dropsNothing second Nearest
 drops-nothing-breaks =
-    broken (withBring dropsNothing) (replicate 32 0)
-    (event 1 1 0 0 ∷ event 3 1 0 0 ∷ event 4 1 0 0 ∷ event 2 0 0 27 ∷ event 2 0 1 500 ∷ event 2 1 1 501 ∷ event 3 1 0 0 ∷ event 4 1 0 0
-    ∷ event 1 1 0 0 ∷ [])
-    second 2 1 refl refl refl
-    (λ l o t.
+    broken (withBring dropsNothing) (0 ∷ 0 ∷ 1 ∷ replicate 29 0)
+    (event 1 1 0 0 ∷ event 3 1 0 0 ∷ event 4 1 0 0 ∷ event 2 0 0 11 ∷ event 2 0 1 12 ∷ event 2 0 2 13 ∷ event 2 1 1 14 ∷ event 3 1 0 0
+    ∷ event 4 1 0 0 ∷ event 1 1 0 0 ∷ event 3 0 0 0 ∷ event 1 1 2 0 ∷ event 1 1 1 0 ∷ [])
+    second 2 3 1 refl refl refl
+    (λ l o.
     let causal = o .explains .causal in
-    o .explains .nearest 8 (refl, refl) 3 (refl, refl)
-    (through 3 6 8 l (o .once)
-    (through 3 4 6 l (o .once)
-    (causal 3 4 (inl refl) (inl refl) (then (listed second) 3 4 (inl refl) (inl refl) refl (omega arith)))
-    (t 1 4 6 (refl, refl) (refl, refl) (omega arith)))
-    (causal 6 8 (inl refl) (inr (refl, refl)) (then (listed second) 6 8 (inl refl) (inr refl) refl (omega arith)))))
+    let datum-first : Before 3 4 l = causal 3 4 (inl refl) (inl refl) (then (listed second) 3 4 (inl refl) (inl refl) refl (omega arith)) in
+    let old-seen : Before 4 12 l =
+    causal 4 12 (inl refl) (inr (refl, refl))
+    (chain (chain (then (listed second) 4 10 (inl refl) (inl refl) refl (omega arith)) (shown {w = 10} {x = 11} refl refl refl))
+    (then (listed second) 11 12 (inr refl) (inr refl) refl (omega arith))) in
+    let own-last : Before 7 9 l = causal 7 9 (inl refl) (inr (refl, refl)) (then (listed second) 7 9 (inl refl) (inr refl) refl (omega arith)) in
+    let overwritten : Before 4 7 l = ⊎-elim (λ e. absurd (omega (arith, e))) (λ b. b) (o .explains .nearest 12 (refl, refl) .2 4 (refl, refl) old-seen) in
+    o .explains .nearest 9 (refl, refl) 3 (refl, refl) (through 3 7 9 l (o .once) (through 3 4 7 l (o .once) datum-first overwritten) own-last))
 
 -- Desk 0 keeps cell 0 and desk 1 cell 1. Desk 1 writes 27 in cell 0 and then 28, and serves a write of desk 0's before the second answer,
 -- which carries 28, arrives; then it reads 27. (Said to come from 27 itself, it has no order either: `overwritten` in causal.)
@@ -119,4 +121,4 @@ leaves-copy-breaks =
     broken (withBring leavesCopy) (0 ∷ 1 ∷ replicate 30 0)
     (event 2 0 1 5 ∷ event 2 1 0 27 ∷ event 3 1 0 0 ∷ event 4 1 0 0 ∷ event 2 1 0 28 ∷ event 3 1 0 0 ∷ event 3 0 0 0 ∷ event 4 1 0 0
     ∷ event 1 1 0 0 ∷ [])
-    third 2 1 refl refl refl (λ l o t. omega (arith, o .explains .word 8 (refl, refl)))
+    third 2 2 1 refl refl refl (λ l o. omega (arith, o .explains .word 8 (refl, refl)))
