@@ -39,7 +39,8 @@ no-cell-rule t desk c e =
       no-stamp = λ _. zero-past 0;
     }
 
-pub held-rule : (t : Tray) (desk c w : ℕ) (k : Clock) → c < t .cells → ZeroPast (t .desks) k → CellRule t desk c (record { held = true; word = w; stamp = k })
+pub held-rule : (t : Tray) (desk c w : ℕ) (k : Clock) → c < t .cells → ZeroPast (t .desks) k
+    → CellRule t desk c (record { held = true; word = w; stamp = k })
 held-rule t desk c w k h p =
     record {
       in-range = λ _. h;
@@ -83,7 +84,8 @@ learns-row v x r p =
 clock-row : (v : Record) (k : Clock) → RowRule v → ZeroPast (v .tray .desks) k → RowRule (withClock v k)
 clock-row v k r p = record { desk-is = r .desk-is; clock-past = p; cell-is = r .cell-is; slot-is = r .slot-is; served-waits = r .served-waits }
 
-pub slot-row : (v : Record) (s : Slot) (on : Bool) → RowRule v → SlotRule (v .tray) (v .desk) s → (on ≡ true → waits s ≡ true) → RowRule (withSlot v s on)
+pub slot-row : (v : Record) (s : Slot) (on : Bool) → RowRule v → SlotRule (v .tray) (v .desk) s → (on ≡ true → waits s ≡ true)
+    → RowRule (withSlot v s on)
 slot-row v s on r new p = record { desk-is = r .desk-is; clock-past = r .clock-past; cell-is = r .cell-is; slot-is = new; served-waits = p }
 
 -- a write is stored in a cell that is kept here
@@ -118,7 +120,8 @@ asked-rule t desk c h e =
     }
 
 -- a slot that carries a word and a clock: a write asked, or an answer
-pub full-rule : (t : Tray) (desk : ℕ) (s : Slot) → 2 ≤ s .kind → s .kind ≤ 4 → s .cell < t .cells → keeps t desk (s .cell) ≡ false → ZeroPast (t .desks) (s .clock) → SlotRule t desk s
+pub full-rule : (t : Tray) (desk : ℕ) (s : Slot) → 2 ≤ s .kind → s .kind ≤ 4 → s .cell < t .cells → keeps t desk (s .cell) ≡ false
+    → ZeroPast (t .desks) (s .clock) → SlotRule t desk s
 unfolding waits
 full-rule t desk s least most h e p =
     record {
@@ -217,7 +220,8 @@ takes-row v m r h p =
     on false e q = rw e at q
 
 -- a desk that brings an answer home
-pub brings-row : (v : Record) (m : Message) → RowRule v → m .cell < v .tray .cells → keeps (v .tray) (v .desk) (m .cell) ≡ false → ZeroPast (v .tray .desks) (m .clock) → RowRule (brings v m)
+pub brings-row : (v : Record) (m : Message) → RowRule v → m .cell < v .tray .cells → keeps (v .tray) (v .desk) (m .cell) ≡ false
+    → ZeroPast (v .tray .desks) (m .clock) → RowRule (brings v m)
 unfolding brings
 brings-row v m r h e p =
     slot-row (holds others (m .cell) (rules.brought (v .served) m)) noSlot false

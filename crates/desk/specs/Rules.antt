@@ -18,7 +18,15 @@ use Rattle.desk.specs.Sound.{isSound}
 -- ---- what may happen to a record
 -- the desk learns a clock: it merges it and loses the copies strictly before it
 abbrev pub learns : Record → Clock → Record
-learns v x = record { tray = v .tray; desk = v .desk; clock = merged (v .clock) x; row = leftOf (v .tray) (v .desk) x (v .row); slot = v .slot; served = v .served }
+learns v x =
+    record {
+      tray = v .tray;
+      desk = v .desk;
+      clock = merged (v .clock) x;
+      row = leftOf (v .tray) (v .desk) x (v .row);
+      slot = v .slot;
+      served = v .served;
+    }
 
 -- cell c is now x
 abbrev pub holds : Record → ℕ → Cell → Record
@@ -64,18 +72,21 @@ abbrev pub writeAsked : ℕ → ℕ → Clock → Slot
 writeAsked c w sent = record { kind = 2; cell = c; word = w; clock = sent }
 
 -- ---- 1 Read, 2 Write, 5 Drop
+-- a held cell is shown and nothing changes; for another its keeper is asked
 unfoldable pub readRule : Record → ℕ → Step
 readRule v c =
     cond (cellAt (v .row) c .held)
     (replied (shownCode (isBlank (cellAt (v .row) c .word) (cellAt (v .row) c .stamp))) (cellAt (v .row) c .word) 0 noMessage v)
     (asks v (readAsked c))
 
+-- the keeper raises its own number and stores the word under it; another desk asks, with the clock that it would have, and keeps its own
 unfoldable pub writeRule : Record → ℕ → ℕ → Step
 writeRule v c w =
     cond (keeps (v .tray) (v .desk) c)
     (replied 0 w 0 noMessage (stores (withClock v (raised (v .clock) (v .desk))) c w))
     (asks v (writeAsked c w (raised (v .clock) (v .desk))))
 
+-- "a copy is given up": count 1 if there was one
 unfoldable pub dropRule : Record → ℕ → Step
 dropRule v c = replied 0 0 (oneIf (isCopy (v .tray) (v .desk) c (cellAt (v .row) c))) noMessage (holds v c noCell)
 
@@ -151,6 +162,7 @@ brought served m = cond served noCell (record { held = true; word = m .word; sta
 unfoldable pub brings : Record → Message → Record
 brings v m = withSlot (holds (learns (holds v (m .cell) noCell) (m .clock)) (m .cell) (brought (v .served) m)) noSlot false
 
+-- "Value is the word; code 0, or 2 for a read" of blank
 unfoldable pub bringDone : Record → Message → Step
 bringDone v m =
     replied (shownCode (eqb (m .kind) 3 && isBlank (m .word) (m .clock))) (m .word)

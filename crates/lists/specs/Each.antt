@@ -30,7 +30,8 @@ module _ {A B : Type 0} where
   getD-mapAt f (x ∷ xs) (suc k) d e h = getD-mapAt (λ j. f (suc j)) xs k d e (le-of-suc-le-suc h)
 
   -- two functions that agree at each place
-  pub mapAt-same : (f g : ℕ → A → B) (l : List A) (d : A) → ((k : ℕ) → k < length l → f k (getD l k d) ≡ g k (getD l k d)) → mapAt f l ≡ mapAt g l
+  pub mapAt-same : (f g : ℕ → A → B) (l : List A) (d : A) → ((k : ℕ) → k < length l → f k (getD l k d) ≡ g k (getD l k d))
+      → mapAt f l ≡ mapAt g l
   unfolding mapAt
   mapAt-same f g [] d p = refl
   mapAt-same f g (x ∷ xs) d p = ap₂ _∷_ (p 0 (omega arith)) (mapAt-same (λ k. f (suc k)) (λ k. g (suc k)) xs d (λ k h. p (suc k) (omega arith)))

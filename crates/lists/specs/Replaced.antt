@@ -43,7 +43,8 @@ module _ {A : Type 0} where
   upTo-ahead f (suc n) l k d h = getD-set-other (upTo f n l) n k (f n) d (omega arith) ∙ upTo-ahead f n l k d (omega arith)
 
   -- all n places replaced: the list is the one that has f k at each place
-  pub upTo-all : (f : ℕ → A) (n : ℕ) (l m : List A) (d : A) → length l ≡ n → length m ≡ n → ((k : ℕ) → k < n → getD m k d ≡ f k) → upTo f n l ≡ m
+  pub upTo-all : (f : ℕ → A) (n : ℕ) (l m : List A) (d : A) → length l ≡ n → length m ≡ n → ((k : ℕ) → k < n → getD m k d ≡ f k)
+      → upTo f n l ≡ m
   upTo-all f n l m d el em p =
       ext-getD d (upTo f n l) m (omega (arith, length-upTo f n l))
       (λ k h.

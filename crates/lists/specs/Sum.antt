@@ -15,7 +15,8 @@ sum [] = 0
 sum (x ∷ xs) = x + sum xs
 
 -- as a loop finds it: what it has so far, and what is left
-pub sum-turn : (l : List ℕ) (i so-far : ℕ) → i < length l → sum l ≡ so-far + sum (drop i l) → sum l ≡ so-far + getD l i 0 + sum (drop (i + 1) l)
+pub sum-turn : (l : List ℕ) (i so-far : ℕ) → i < length l → sum l ≡ so-far + sum (drop i l)
+    → sum l ≡ so-far + getD l i 0 + sum (drop (i + 1) l)
 unfolding sum
 sum-turn l i so-far h e = e ∙ rw (add-one, drop-cons l i 0 h, add-assoc so-far (getD l i 0) (sum (drop (suc i) l)))
 

@@ -47,7 +47,8 @@ pub either-left : {a b : Bool} → a ≡ false → (a || b) ≡ true → b ≡ t
 either-left p q = rw p at q
 
 -- ---- as a loop finds it: what it has so far, and what is left
-pub every-turn : {whole : Bool} (l : List Bool) (i : ℕ) (so-far : Bool) → i < length l → whole ≡ (so-far && every (drop i l)) → whole ≡ (so-far && getD l i true && every (drop (i + 1) l))
+pub every-turn : {whole : Bool} (l : List Bool) (i : ℕ) (so-far : Bool) → i < length l → whole ≡ (so-far && every (drop i l))
+    → whole ≡ (so-far && getD l i true && every (drop (i + 1) l))
 unfolding every
 every-turn l i so-far h e = e ∙ rw (add-one, drop-cons l i true h, and-assoc so-far (getD l i true) (every (drop (suc i) l)))
 
@@ -55,7 +56,8 @@ pub every-end : {whole : Bool} (l : List Bool) (i : ℕ) (so-far : Bool) → len
 unfolding every
 every-end l i so-far h e = e ∙ rw (drop-of-length-le l h, and-true so-far)
 
-pub some-turn : {whole : Bool} (l : List Bool) (i : ℕ) (so-far : Bool) → i < length l → whole ≡ (so-far || some (drop i l)) → whole ≡ (so-far || getD l i false || some (drop (i + 1) l))
+pub some-turn : {whole : Bool} (l : List Bool) (i : ℕ) (so-far : Bool) → i < length l → whole ≡ (so-far || some (drop i l))
+    → whole ≡ (so-far || getD l i false || some (drop (i + 1) l))
 unfolding some
 some-turn l i so-far h e = e ∙ rw (add-one, drop-cons l i false h, or-assoc so-far (getD l i false) (some (drop (suc i) l)))
 

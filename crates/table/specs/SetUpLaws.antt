@@ -34,7 +34,8 @@ settled desks cells keepers e =
       right = not-false (keepersRight desks cells keepers) (k .0);
     }
 
-pub keeper-below : {desks cells : ℕ} {keepers : List ℕ} → Settled desks cells keepers → (c : ℕ) → c < cells → c < length keepers → getD keepers c 0 < desks
+pub keeper-below : {desks cells : ℕ} {keepers : List ℕ} → Settled desks cells keepers → (c : ℕ) → c < cells → c < length keepers
+    → getD keepers c 0 < desks
 unfolding keepersRight
 keeper-below {desks} {cells} {keepers} s c h i =
     ltb-true (getD keepers c 0) desks
