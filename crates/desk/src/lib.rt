@@ -10,6 +10,7 @@ mod asking;
 mod losing;
 mod serving;
 pub mod sound;
+pub mod starting;
 
 // What a desk has of one cell. A cell that is not held has word 0 and the zero stamp.
 #[repr(C)]
@@ -79,6 +80,13 @@ pub struct Step {
     pub reply: Reply,
     pub message: Message,
     pub after: Record,
+}
+
+// What starting gives: code 0 and the desk's fresh record, or a refusal and an all-zero one.
+#[repr(C)]
+pub struct Start {
+    pub code: u32,
+    pub record: Record,
 }
 
 impl Record {

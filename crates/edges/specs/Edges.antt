@@ -14,10 +14,11 @@ use Rattle.desk.specs.declared.Reply.{Reply}
 use Rattle.desk.specs.Desk.{noMessage, isBlank, keeps, waits}
 use Rattle.desk.specs.Rules.{withClock, eventDone, readRule as readHeld, writeRule}
 use Rattle.desk.specs.Sound.{traySound, rowSound, keeperSound, cellsSound, cellSound, slotSound, slotNames, slotCarries}
+use Rattle.desk.specs.Start.{keepersRight, freshTray, setUpRefusal}
 use Rattle.table.specs.declared.Table.{Table}
 use Rattle.table.specs.Choice.{small, event, run, replies}
 use Rattle.table.specs.Rules.{isOwn, isAsked, isAnswered, refusal, outcome, ownRule, done, unless, eventRule}
-use Rattle.table.specs.SetUp.{keepersRight, freshTray, freshTable, setUpRefusal, answerSetUp, setUpRule}
+use Rattle.table.specs.SetUp.{freshTable, answerSetUp, setUpRule}
 use Rattle.table.specs.Sound.{cellZero, slotZero, rowZero, deskSound, tableSound}
 use Rattle.table.specs.Table.{recordOf, putBack}
 use Rattle.lists.specs.Sum.{sum}

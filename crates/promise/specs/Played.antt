@@ -10,6 +10,7 @@ use Rattle.desk.specs.declared.Reply.{Reply}
 use Rattle.desk.specs.Desk.{keeps, isCopy, isBlank, isLost, leftOf, lossOf, waits}
 use Rattle.desk.specs.Rules.{readRule, writeRule, dropRule, eventDone, readServed, takes, writeServed, serveDone, brings, bringDone}
 use Rattle.desk.specs.Sound.{keeperSound, traySound, cellSound, cellsSound, slotNames, slotCarries, slotSound, rowSound}
+use Rattle.desk.specs.Start.{keepersRight, freshTray, setUpRefusal}
 use Rattle.lists.specs.Each.{mapAt}
 use Rattle.lists.specs.Sum.{sum}
 use Rattle.lists.specs.Test.{every, some}
@@ -17,7 +18,7 @@ use Rattle.table.specs.declared.Outcome.{Outcome}
 use Rattle.table.specs.declared.Table.{Table}
 use Rattle.table.specs.Rules.{isOwn, isAsked, isAnswered, refusal, outcome, messageOf, ownRule, served, takeRule, bringRule}
 use Rattle.table.specs.Rules.{done, unless, eventRule}
-use Rattle.table.specs.SetUp.{keepersRight, freshTray, freshTable, setUpRefusal, answerSetUp, setUpRule}
+use Rattle.table.specs.SetUp.{freshTable, answerSetUp, setUpRule}
 use Rattle.table.specs.Sound.{cellZero, slotZero, rowZero, deskSound, tableSound}
 use Rattle.table.specs.Table.{recordOf, putBack, withSlotOf}
 use Rattle.promise.specs.Operations.{entry, Account, opened, next, run}

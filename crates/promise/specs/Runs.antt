@@ -11,9 +11,10 @@ use Rattle.causal.specs.History.{quiet, read, Step, nothing, listed}
 use Rattle.causal.specs.Machine as machine
 use Rattle.desk.specs.declared.Event.{Event}
 use Rattle.desk.specs.declared.Reply.{Reply}
+use Rattle.desk.specs.Start.{freshTray, setUpRefusal}
 use Rattle.table.specs.Fresh.{fresh-sized}
 use Rattle.table.specs.Rules.{eventRule}
-use Rattle.table.specs.SetUp.{freshTray, freshTable, setUpRefusal, answerSetUp, setUpRule}
+use Rattle.table.specs.SetUp.{freshTable, answerSetUp, setUpRule}
 use Rattle.promise.specs.Link.{Tied, linked}
 use Rattle.promise.specs.Operations.{entry, Account, noReply, repliedAt, opened, next, run}
 use Rattle.promise.specs.Room.{Room}

@@ -13,6 +13,7 @@ use Rattle.desk.specs.declared.Reply.{Reply}
 use Rattle.desk.specs.Desk.{cellAt, keeps, waits, isBlank}
 use Rattle.desk.specs.Rules.{eventDone, readRule, writeRule}
 use Rattle.desk.specs.Sound.{traySound, rowSound, keeperSound, cellsSound, cellSound, slotSound, slotNames, slotCarries}
+use Rattle.desk.specs.Start.{keepersRight, freshTray, setUpRefusal}
 use Rattle.lists.specs.Each.{mapAt}
 use Rattle.lists.specs.Test.{every, both}
 use Rattle.table.specs.declared.Outcome.{Outcome}
@@ -21,7 +22,7 @@ use Rattle.table.specs.Fresh.{set-up-sized}
 use Rattle.table.specs.Kept.{event-sized, event-sound}
 use Rattle.table.specs.Rows.{Sized}
 use Rattle.table.specs.Rules.{isOwn, isAsked, isAnswered, refusal, outcome, ownRule, done, unless, eventRule}
-use Rattle.table.specs.SetUp.{keepersRight, freshTray, freshTable, setUpRefusal, answerSetUp, setUpRule}
+use Rattle.table.specs.SetUp.{freshTable, answerSetUp, setUpRule}
 use Rattle.table.specs.Sound.{cellZero, slotZero, rowZero, deskSound, tableSound}
 use Rattle.table.specs.Table.{recordOf, putBack}
 

@@ -7,7 +7,6 @@ pub mod Rows
 pub mod RuleLaws
 pub mod Rules
 pub mod SetUp
-pub mod SetUpLaws
 pub mod Sound
 pub mod SoundLaws
 pub mod Table

@@ -1,29 +1,21 @@
 -- Setting up: any counts and 32 keepers. A fresh table has zero clocks, empty slots and each cell held by its keeper alone.
 -- Assumes nothing.
-use mathlib.Core.Bool.{Bool, false, not, _&&_, _||_, cond}
+use mathlib.Core.Bool.{false}
 use mathlib.Core.List.{List}
 use Prim.Native.Nat.{ℕ, zero, suc, _/_, _%_}
-use lib.Dec.{ltb, leb}
 use lib.ListN.{replicate}
 use Rattle.clock.specs.Clock.{zeroClock}
 use Rattle.desk.specs.declared.Cell.{Cell}
 use Rattle.desk.specs.declared.Tray.{Tray}
-use Rattle.desk.specs.Desk.{noCell, noSlot, keeps}
+use Rattle.desk.specs.Desk.{noCell, noSlot}
+use Rattle.desk.specs.Start.{keptAlone, freshTray, setUpRefusal}
 use Rattle.lists.specs.Each.{mapAt}
-use Rattle.lists.specs.Test.{every}
 use Rattle.table.specs.declared.SetUp.{SetUp}
 use Rattle.table.specs.declared.Table.{Table}
 
--- "keepers past the cell count are ignored and stored as 0"
-abbrev pub storedKeeper : ℕ → ℕ → ℕ → ℕ
-storedKeeper cells c keeper = cond (ltb c cells) keeper 0
-
-unfoldable pub freshTray : ℕ → ℕ → List ℕ → Tray
-freshTray desks cells keepers = record { desks = desks; cells = cells; keepers = mapAt (storedKeeper cells) keepers }
-
--- entry i is cell i % 32 of desk i / 32: held by its keeper alone, with word 0 and zero stamp
+-- entry i is cell i % 32 of desk i / 32
 abbrev pub freshCell : Tray → ℕ → Cell
-freshCell t i = record { held = keeps t (i / 32) (i % 32); word = 0; stamp = zeroClock }
+freshCell t i = keptAlone t (i / 32) (i % 32)
 
 unfoldable pub freshTable : Tray → Table
 freshTable t =
@@ -44,20 +36,6 @@ noTable =
       served = replicate 8 false;
       cells = replicate 256 noCell;
     }
-
--- every keeper below the cell count is a desk
-abbrev pub keeperRight : ℕ → ℕ → ℕ → ℕ → Bool
-keeperRight desks cells c keeper = not (ltb c cells) || ltb keeper desks
-
-unfoldable pub keepersRight : ℕ → ℕ → List ℕ → Bool
-keepersRight desks cells keepers = every (mapAt (keeperRight desks cells) keepers)
-
--- 20 desks not 1 to 8, 21 cells not 1 to 32, 22 a keeper that is no desk
-unfoldable pub setUpRefusal : ℕ → ℕ → List ℕ → ℕ
-setUpRefusal desks cells keepers =
-    cond (not (leb 1 desks && leb desks 8)) 20
-    (cond (not (leb 1 cells && leb cells 32)) 21
-    (cond (not (keepersRight desks cells keepers)) 22 0))
 
 -- a refusal gives its number and an all-zero table
 unfoldable pub answerSetUp : ℕ → Table → SetUp

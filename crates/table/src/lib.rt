@@ -9,6 +9,7 @@ use desk::Event;
 use desk::Reply;
 use desk::Slot;
 use desk::Tray;
+use desk::starting;
 
 mod moving;
 mod rows;
@@ -65,14 +66,14 @@ impl Table {
     pub fn set_up(desks: u32, cells: u32, keepers: [u32; 32]) -> SetUp
         ensures { λ r. ⌜ r ≡ setUpRule desks cells keepers ⌝ }
     {
-        let code = setting::refusal(desks, cells, keepers);
+        let code = starting::refusal(desks, cells, keepers);
         if code != 0 {
             return SetUp {
                 code,
                 table: NO_TABLE,
             };
         }
-        let tray = setting::tray(desks, cells, keepers);
+        let tray = starting::tray(desks, cells, keepers);
         SetUp {
             code: 0,
             table: setting::fresh(tray),

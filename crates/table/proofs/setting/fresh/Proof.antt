@@ -26,8 +26,11 @@ loop-holds : tie.Need-loop-holds Inv-loop μ-loop
 unfolding upTo
 loop-holds c = (search needs, refl)
 
-fresh-cell-requires : tie.Need-fresh-cell-requires Inv-loop μ-loop
-fresh-cell-requires c κs = search needs
+cast-kept-alone : tie.Need-cast-kept-alone Inv-loop μ-loop
+cast-kept-alone c = search needs
+
+kept-alone-requires : tie.Need-kept-alone-requires Inv-loop μ-loop
+kept-alone-requires c κs = search needs
 
 mul-cells : tie.Need-mul-cells Inv-loop μ-loop
 mul-cells c = search needs
@@ -46,7 +49,7 @@ loop-again c =
     let at-loop = c .before .before in
     let t = at-loop .before .args .t in
     let k = at-loop .loop .i in
-    (omega arith, ap₂ (λ (l : List Cell) (x : Cell). set l k x) (at-loop .loop .inv .1) (c .fresh-cell .ensures) ∙ upTo-step (freshCell t) k (replicate 256 noCell))
+    (omega arith, ap₂ (λ (l : List Cell) (x : Cell). set l k x) (at-loop .loop .inv .1) (c .kept-alone .ensures) ∙ upTo-step (freshCell t) k (replicate 256 noCell))
 
 returns : tie.Need-returns Inv-loop μ-loop
 unfolding freshTable
@@ -64,7 +67,8 @@ fresh-spec =
     Inv-loop
     μ-loop
     loop-holds
-    fresh-cell-requires
+    cast-kept-alone
+    kept-alone-requires
     mul-cells
     array-set-from-cells
     add-i

@@ -1,13 +1,13 @@
--- `table::setting::refusal` meets its contract: each return rewrites with the tests that led there.
+-- `desk::starting::refusal` meets its contract: each return rewrites with the tests that led there.
 -- Assumes nothing.
 use borrow.Author.Tests.{not-false}
 use mathlib.Core.Bool.{_&&_}
 use lib.Dec.{leb}
 use borrow.Author.Tests.{leb-true}
 use Rattle.lists.specs.Test.{both-right}
-use Rattle.table.specs.SetUp.{setUpRefusal}
-use Rattle.table.proofs.setting.refusal.Statement.{statement}
-use Rattle.table.proofs.setting.refusal.Tie as tie
+use Rattle.desk.specs.Start.{setUpRefusal}
+use Rattle.desk.proofs.starting.refusal.Statement.{statement}
+use Rattle.desk.proofs.starting.refusal.Tie as tie
 
 returns : tie.Need-returns
 unfolding setUpRefusal

@@ -1,4 +1,4 @@
--- `table::setting::keepers_right` meets its contract. The loop's invariant: the test so far, with what is left of the keepers.
+-- `desk::starting::keepers_right` meets its contract. The loop's invariant: the test so far, with what is left of the keepers.
 -- Assumes nothing.
 use borrow.Author.Needs.{needs}
 use native.Mathlib.Omega.{arith}
@@ -8,9 +8,9 @@ use Prim.Native.Nat.{_-_, _≤_}
 use lib.ListN.{length, drop}
 use Rattle.lists.specs.Each.{mapAt}
 use Rattle.lists.specs.Test.{every, mapAt-turn, mapAt-end}
-use Rattle.table.specs.SetUp.{keeperRight, keepersRight}
-use Rattle.table.proofs.setting.keepers_right.Statement.{statement}
-use Rattle.table.proofs.setting.keepers_right.Tie as tie
+use Rattle.desk.specs.Start.{keeperRight, keepersRight}
+use Rattle.desk.proofs.starting.keepers_right.Statement.{statement}
+use Rattle.desk.proofs.starting.keepers_right.Tie as tie
 
 abbrev Inv-loop : tie.InvT-loop
 Inv-loop desks cells keepers count right₀ c₀ right c = (c ≤ 32)

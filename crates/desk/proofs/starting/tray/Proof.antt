@@ -1,4 +1,4 @@
--- `table::setting::tray` meets its contract. The loop's invariant: the places passed have the keepers as they are stored.
+-- `desk::starting::tray` meets its contract. The loop's invariant: the places passed have the keepers as they are stored.
 -- Assumes nothing.
 use borrow.Author.Needs.{needs}
 use native.Mathlib.Omega.{arith}
@@ -7,12 +7,12 @@ use mathlib.Core.List.{List}
 use Prim.Native.Nat.{ℕ, _-_, _≤_}
 use lib.ListN.{length, getD, set, replicate}
 use borrow.Author.Tests.{ltb-true}
-use Rattle.table.specs.SetUpLaws.{settled, keeper-below}
+use Rattle.desk.specs.StartLaws.{settled, keeper-below}
 use Rattle.lists.specs.Replaced.{upTo, upTo-step, upTo-all}
 use Rattle.lists.specs.Each.{mapAt, length-mapAt, getD-mapAt}
-use Rattle.table.specs.SetUp.{storedKeeper, freshTray}
-use Rattle.table.proofs.setting.tray.Statement.{statement}
-use Rattle.table.proofs.setting.tray.Tie as tie
+use Rattle.desk.specs.Start.{storedKeeper, freshTray}
+use Rattle.desk.proofs.starting.tray.Statement.{statement}
+use Rattle.desk.proofs.starting.tray.Tie as tie
 
 -- what the loop stores at place k
 abbrev stored-at : ℕ → List ℕ → ℕ → ℕ

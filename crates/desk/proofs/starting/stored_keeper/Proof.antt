@@ -1,8 +1,8 @@
--- `table::setting::stored_keeper` meets its contract.
+-- `desk::starting::stored_keeper` meets its contract.
 -- Assumes nothing.
 use native.Mathlib.Omega.{arith}
-use Rattle.table.proofs.setting.stored_keeper.Statement.{statement}
-use Rattle.table.proofs.setting.stored_keeper.Tie as tie
+use Rattle.desk.proofs.starting.stored_keeper.Statement.{statement}
+use Rattle.desk.proofs.starting.stored_keeper.Tie as tie
 
 cast-result : tie.Need-cast-result
 cast-result c = omega (arith, c .before .pre (c .if1 .taken))
