@@ -15,6 +15,7 @@ ghost use Rattle.frame.specs.Frame.{writeRule, outputRule};
 ghost use Rattle.frame.specs.Laws.{headOf};
 
 // What reading gives: code 0, the message and how many bytes its frame has; or a refusal with an all-zero message and 0 used.
+#[repr(C)]
 pub struct Reading {
     pub code: u32,
     pub message: Message,
@@ -22,6 +23,7 @@ pub struct Reading {
 }
 
 // What writing tells: code 0 and how many bytes the frame has; or a refusal and 0 used.
+#[repr(C)]
 pub struct Written {
     pub code: u32,
     pub used: usize,

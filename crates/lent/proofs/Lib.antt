@@ -1,2 +1,3 @@
+pub mod Lendings
 pub mod Places
 pub mod Walk

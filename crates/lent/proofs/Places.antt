@@ -13,7 +13,12 @@ use Rattle.desk.proofs.Message.Laws as Message
 use Rattle.desk.proofs.Record.Laws as Record
 use Rattle.desk.proofs.Reply.Laws as Reply
 use Rattle.desk.proofs.Slot.Laws as Slot
+use Rattle.desk.proofs.Start.Laws as Start
 use Rattle.desk.proofs.Tray.Laws as Tray
+use Rattle.frame.proofs.Reading.Laws as Reading
+use Rattle.frame.proofs.Written.Laws as Written
+use Rattle.table.proofs.SetUp.Laws as SetUp
+use Rattle.table.proofs.Table.Laws as Table
 use Rattle.lent.proofs.Answer.Laws as Answer
 
 abbrev placeIn : Option (Ty × ℕ) → ℕ
@@ -54,3 +59,18 @@ message-places = refl
 
 answer-places : places 2 Answer.mir ≡ 0 ∷ 12 ∷ 52 ∷ []
 answer-places = refl
+
+start-places : places 2 Start.mir ≡ 0 ∷ 4 ∷ 1396 ∷ []
+start-places = refl
+
+reading-places : places 3 Reading.mir ≡ 0 ∷ 4 ∷ 48 ∷ 56 ∷ []
+reading-places = refl
+
+written-places : places 2 Written.mir ≡ 0 ∷ 8 ∷ 16 ∷ []
+written-places = refl
+
+table-places : places 5 Table.mir ≡ 0 ∷ 36 ∷ 292 ∷ 612 ∷ 620 ∷ 10860 ∷ []
+table-places = refl
+
+set-up-places : places 2 SetUp.mir ≡ 0 ∷ 4 ∷ 10864 ∷ []
+set-up-places = refl

@@ -1,4 +1,4 @@
--- What a lent function answers of a step, and what its promise comes to: a refusal leaves the lent record as it was, and no choice is left.
+-- What a lent function answers of a step, and what its promise comes to: a refusal leaves what is lent as it was, and no choice is left.
 -- Assumes nothing.
 use mathlib.Core.Path.{_≡_, sym, _∙_, ap}
 use Prim.Native.Nat.{ℕ}
@@ -9,16 +9,18 @@ use Rattle.desk.specs.declared.Step.{Step}
 use Rattle.desk.specs.Desk.{noMessage}
 use Rattle.desk.specs.RuleLaws.{unless-refused}
 use Rattle.desk.specs.Rules.{unless, eventRefusal, eventDone, eventRule, serveRefusal, serveRule, bringRefusal, bringRule}
+use Rattle.table.specs.declared.Table.{Table}
+use Rattle.table.specs.Rules as table
+use Rattle.table.specs.RuleLaws.{event-refused}
 use Rattle.lent.specs.declared.Answer.{Answer}
 
 -- the reply and the message; the step's record goes back to the lender
 abbrev pub answerOf : Step → Answer
 answerOf s = record { reply = s .reply; message = s .message }
 
--- any two answers and records that meet the promise are equal
-pub no-choice : (s : Step) {r r′ : Answer} {v v′ : Record} → (r ≡ answerOf s) × (v ≡ s .after) → (r′ ≡ answerOf s) × (v′ ≡ s .after)
-    → (r ≡ r′) × (v ≡ v′)
-no-choice s p q = (p .0 ∙ sym (q .0), p .1 ∙ sym (q .1))
+-- any two answers, and any two lent values, that meet a promise are equal
+pub no-choice : {A B : Type 0} {a r r′ : A} {b v v′ : B} → (r ≡ a) × (v ≡ b) → (r′ ≡ a) × (v′ ≡ b) → (r ≡ r′) × (v ≡ v′)
+no-choice p q = (p .0 ∙ sym (q .0), p .1 ∙ sym (q .1))
 
 -- ---- "A refusal changes nothing in the record and gives an all-zero message."
 abbrev pub refusal : ℕ → Answer
@@ -42,3 +44,8 @@ serve-refuses v m some = refuses (serveRefusal v m) v _ some
 pub bring-refuses : (v : Record) (m : Message) → (bringRefusal v m ≡ 0 → ⊥) → Refuses (bringRefusal v m) v (bringRule v m)
 unfolding bringRule
 bring-refuses v m some = refuses (bringRefusal v m) v _ some
+
+-- ---- "The reply is the number, value 0, count 0; the table stays as given."
+pub table-refuses : (t : Table) (e : Event) → (table.refusal t e ≡ 0 → ⊥)
+    → (table.eventRule t e .reply ≡ refusal (table.refusal t e) .reply) × (table.eventRule t e .after ≡ t)
+table-refuses t e some = (ap (λ o. o .reply) (event-refused t e some), ap (λ o. o .after) (event-refused t e some))

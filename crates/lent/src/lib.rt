@@ -1,17 +1,40 @@
-// A desk's part over the record that its program lends it, for Rust and C: load the record, take the step by value, store the record.
+// The library for Rust and C. What is lent (a desk's record, a table) is loaded, goes through a step by value, and is stored.
 ghost use mathlib.Core.Path.{_≡_};
 ghost use Rattle.desk.specs.Rules.{eventRule, serveRule, bringRule};
+ghost use Rattle.desk.specs.Start.{startRule};
+ghost use Rattle.frame.specs.Frame.{readRule, writeRule, outputRule};
+ghost use Rattle.table.specs.Rules.{eventRule as tableRule};
+ghost use Rattle.table.specs.SetUp.{setUpRule};
 ghost use Rattle.lent.specs.Answers.{answerOf};
 use desk::Event;
 use desk::Message;
 use desk::Record;
 use desk::Reply;
+use desk::Start;
+use desk::starting;
+use frame::Reading;
+use frame::Written;
+use table::SetUp;
+use table::Table;
 
 // What a step gives beside the record, which goes back to the lender.
 #[repr(C)]
 pub struct Answer {
     pub reply: Reply,
     pub message: Message,
+}
+
+// A desk's fresh record. Keepers past the cell count are ignored.
+#[no_mangle]
+pub extern "C" fn cwmorlais_desk_start(
+    desks: u32,
+    cells: u32,
+    keepers: &[u32; 32],
+    desk: u32,
+) -> Start
+    ensures { λ r. ⌜ r ≡ startRule desks cells (now (keepers .entry)) desk ⌝ }
+{
+    starting::start(desks, cells, *keepers, desk)
 }
 
 // The desk's user wants something. With code 1 the message is the request, for the cell's keeper.
@@ -51,4 +74,39 @@ pub extern "C" fn cwmorlais_desk_bring(v: &mut Record, m: Message) -> Answer
         reply: step.reply,
         message: step.message,
     }
+}
+
+// The message whose frame the bytes start with.
+#[no_mangle]
+pub extern "C" fn cwmorlais_frame_read(s: &[u8]) -> Reading
+    ensures { λ r. ⌜ r ≡ readRule (now (s .entry)) ⌝ }
+{
+    frame::read(s)
+}
+
+// The frame of a message, at the start of the output.
+#[no_mangle]
+pub extern "C" fn cwmorlais_frame_write(m: Message, out: &mut [u8]) -> Written
+    ensures { λ r. ⌜ r ≡ writeRule m (now (out .entry)) ⌝ }
+    ensures { λ r. ⌜ now (out .exit) ≡ outputRule m (now (out .entry)) ⌝ }
+{
+    frame::write(m, out)
+}
+
+// A fresh table. Keepers past the cell count are ignored.
+#[no_mangle]
+pub extern "C" fn cwmorlais_table_set_up(desks: u32, cells: u32, keepers: &[u32; 32]) -> SetUp
+    ensures { λ r. ⌜ r ≡ setUpRule desks cells (now (keepers .entry)) ⌝ }
+{
+    Table::set_up(desks, cells, *keepers)
+}
+
+// One event on the lent table.
+#[no_mangle]
+pub extern "C" fn cwmorlais_table_event(t: &mut Table, e: Event) -> Reply
+    ensures { λ r. ⌜ (r ≡ tableRule (now (t .entry)) e .reply) × (now (t .exit) ≡ tableRule (now (t .entry)) e .after) ⌝ }
+{
+    let outcome = Table::event(*t, e);
+    *t = outcome.after;
+    outcome.reply
 }

@@ -16,6 +16,7 @@ mod rows;
 mod setting;
 
 // Desk d's cell c is entry d * 32 + c of `cells`.
+#[repr(C)]
 pub struct Table {
     pub tray: Tray,
     pub clocks: [Clock; 8],
@@ -31,6 +32,7 @@ pub struct Outcome {
 }
 
 // What setting up gives: code 0 and the fresh table, or a refusal and an all-zero one.
+#[repr(C)]
 pub struct SetUp {
     pub code: u32,
     pub table: Table,

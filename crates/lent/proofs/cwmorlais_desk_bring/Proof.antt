@@ -8,6 +8,7 @@ use Rattle.desk.proofs.Message as X
 use Rattle.desk.proofs.Message.Laws as X′
 use Rattle.desk.proofs.Record.bring.Met as met
 use Rattle.desk.proofs.Record.bring.Symbol as step
+use Rattle.lent.proofs.Lendings.{record-lent}
 use Rattle.lent.proofs.Walk.{lent-spec}
 use Rattle.lent.proofs.cwmorlais_desk_bring as f
 use Rattle.lent.proofs.cwmorlais_desk_bring.Code as code
@@ -17,6 +18,6 @@ use Rattle.lent.proofs.cwmorlais_desk_bring.Statement.{statement}
 pub cwmorlais-desk-bring-spec : {M : Type 1} → statement M
 unfolding code.routine
 cwmorlais-desk-bring-spec 𝓤 H 𝓜 𝓖 𝓡 =
-    lent-spec X.the-type X′.the-laws X′.the-plain bringRule 𝓤 H 𝓜 𝓖 𝓡 code.env
+    lent-spec record-lent X.the-type X′.the-laws X′.the-plain bringRule 𝓤 H 𝓜 𝓖 𝓡 code.env
     (f.clauses 𝓤 H (𝓖 .A) (𝓜 .mem) (𝓡 .run)) (λ κs a g. factI 𝓤 _ (emp 𝓤) (refl, refl))
     lent.name step.name (code.unfolded 𝓤 H 𝓜 𝓡) step.routine code.calls-desk·Record·bring (met.met 𝓤 H 𝓜 𝓖 𝓡)

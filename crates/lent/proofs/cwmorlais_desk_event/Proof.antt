@@ -8,6 +8,7 @@ use Rattle.desk.proofs.Event as X
 use Rattle.desk.proofs.Event.Laws as X′
 use Rattle.desk.proofs.Record.event.Met as met
 use Rattle.desk.proofs.Record.event.Symbol as step
+use Rattle.lent.proofs.Lendings.{record-lent}
 use Rattle.lent.proofs.Walk.{lent-spec}
 use Rattle.lent.proofs.cwmorlais_desk_event as f
 use Rattle.lent.proofs.cwmorlais_desk_event.Code as code
@@ -17,6 +18,6 @@ use Rattle.lent.proofs.cwmorlais_desk_event.Statement.{statement}
 pub cwmorlais-desk-event-spec : {M : Type 1} → statement M
 unfolding code.routine
 cwmorlais-desk-event-spec 𝓤 H 𝓜 𝓖 𝓡 =
-    lent-spec X.the-type X′.the-laws X′.the-plain eventRule 𝓤 H 𝓜 𝓖 𝓡 code.env
+    lent-spec record-lent X.the-type X′.the-laws X′.the-plain eventRule 𝓤 H 𝓜 𝓖 𝓡 code.env
     (f.clauses 𝓤 H (𝓖 .A) (𝓜 .mem) (𝓡 .run)) (λ κs a g. factI 𝓤 _ (emp 𝓤) (refl, refl))
     lent.name step.name (code.unfolded 𝓤 H 𝓜 𝓡) step.routine code.calls-desk·Record·event (met.met 𝓤 H 𝓜 𝓖 𝓡)

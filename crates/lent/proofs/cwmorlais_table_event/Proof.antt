@@ -1,0 +1,23 @@
+-- `lent::cwmorlais_table_event` meets its contract: the shared walk, at a table, an event and the table's `eventRule`.
+-- Assumes nothing.
+use mathlib.Core.Path.{refl}
+use base.Logic.{emp}
+use contract.Monad.{factI}
+use Rattle.table.specs.Rules.{eventRule}
+use Rattle.desk.proofs.Event as X
+use Rattle.desk.proofs.Event.Laws as X′
+use Rattle.table.proofs.Table.event.Met as met
+use Rattle.table.proofs.Table.event.Symbol as step
+use Rattle.lent.proofs.Lendings.{table-lent}
+use Rattle.lent.proofs.Walk.{lent-spec}
+use Rattle.lent.proofs.cwmorlais_table_event as f
+use Rattle.lent.proofs.cwmorlais_table_event.Code as code
+use Rattle.lent.proofs.cwmorlais_table_event.Key as lent
+use Rattle.lent.proofs.cwmorlais_table_event.Statement.{statement}
+
+pub cwmorlais-table-event-spec : {M : Type 1} → statement M
+unfolding code.routine
+cwmorlais-table-event-spec 𝓤 H 𝓜 𝓖 𝓡 =
+    lent-spec table-lent X.the-type X′.the-laws X′.the-plain eventRule 𝓤 H 𝓜 𝓖 𝓡 code.env
+    (f.clauses 𝓤 H (𝓖 .A) (𝓜 .mem) (𝓡 .run)) (λ κs a g. factI 𝓤 _ (emp 𝓤) (refl, refl))
+    lent.name step.name (code.unfolded 𝓤 H 𝓜 𝓡) step.routine code.calls-table·Table·event (met.met 𝓤 H 𝓜 𝓖 𝓡)
