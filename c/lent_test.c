@@ -1,55 +1,29 @@
-/* Three desks as three lent records play 01's whole case through the header, and refusals leave a record as it was. The compiler holds the
- * header to the places of crates/lent/proofs/Places.antt. No header of the C library is used, so any C compiler for x86-64 will do. */
+/* 01's whole case, played by three desks that lend their records and send each other frames, and on a lent table beside them; and refusals,
+ * which leave what is lent as it was. The compiler holds the header to the places of crates/lent/proofs/Places.antt. No header of the C library
+ * is used, so any C compiler for x86-64 will do. */
 #include <stddef.h>
 
 #include "cwmorlais.h"
 
 int printf(const char *form, ...);
 
-#define AT(type, field, place) _Static_assert(offsetof(type, field) == (place), #type "." #field)
-#define SIZE(type, size) _Static_assert(sizeof(type) == (size), #type)
+#define AT(type, field, place) _Static_assert(offsetof(cwmorlais_##type, field) == (place), #type "." #field);
+#define SIZE(type, size) _Static_assert(sizeof(cwmorlais_##type) == (size), #type);
 
-AT(cwmorlais_clock, n, 0);
-SIZE(cwmorlais_clock, 32);
-AT(cwmorlais_cell, held, 0);
-AT(cwmorlais_cell, word, 4);
-AT(cwmorlais_cell, stamp, 8);
-SIZE(cwmorlais_cell, 40);
-AT(cwmorlais_slot, kind, 0);
-AT(cwmorlais_slot, cell, 1);
-AT(cwmorlais_slot, word, 4);
-AT(cwmorlais_slot, clock, 8);
-SIZE(cwmorlais_slot, 40);
-AT(cwmorlais_tray, desks, 0);
-AT(cwmorlais_tray, cells, 1);
-AT(cwmorlais_tray, keepers, 2);
-SIZE(cwmorlais_tray, 34);
-AT(cwmorlais_record, tray, 0);
-AT(cwmorlais_record, desk, 34);
-AT(cwmorlais_record, clock, 36);
-AT(cwmorlais_record, row, 68);
-AT(cwmorlais_record, slot, 1348);
-AT(cwmorlais_record, served, 1388);
-SIZE(cwmorlais_record, 1392);
-AT(cwmorlais_event, kind, 0);
-AT(cwmorlais_event, desk, 4);
-AT(cwmorlais_event, cell, 8);
-AT(cwmorlais_event, word, 12);
-SIZE(cwmorlais_event, 16);
-AT(cwmorlais_reply, code, 0);
-AT(cwmorlais_reply, value, 4);
-AT(cwmorlais_reply, count, 8);
-SIZE(cwmorlais_reply, 12);
-AT(cwmorlais_message, kind, 0);
-AT(cwmorlais_message, desks, 1);
-AT(cwmorlais_message, desk, 2);
-AT(cwmorlais_message, cell, 3);
-AT(cwmorlais_message, word, 4);
-AT(cwmorlais_message, clock, 8);
-SIZE(cwmorlais_message, 40);
-AT(cwmorlais_answer, reply, 0);
-AT(cwmorlais_answer, message, 12);
-SIZE(cwmorlais_answer, 52);
+AT(clock, n, 0) SIZE(clock, 32)
+AT(cell, held, 0) AT(cell, word, 4) AT(cell, stamp, 8) SIZE(cell, 40)
+AT(slot, kind, 0) AT(slot, cell, 1) AT(slot, word, 4) AT(slot, clock, 8) SIZE(slot, 40)
+AT(tray, desks, 0) AT(tray, cells, 1) AT(tray, keepers, 2) SIZE(tray, 34)
+AT(record, tray, 0) AT(record, desk, 34) AT(record, clock, 36) AT(record, row, 68) AT(record, slot, 1348) AT(record, served, 1388) SIZE(record, 1392)
+AT(table, tray, 0) AT(table, clocks, 36) AT(table, slots, 292) AT(table, served, 612) AT(table, cells, 620) SIZE(table, 10860)
+AT(event, kind, 0) AT(event, desk, 4) AT(event, cell, 8) AT(event, word, 12) SIZE(event, 16)
+AT(reply, code, 0) AT(reply, value, 4) AT(reply, count, 8) SIZE(reply, 12)
+AT(message, kind, 0) AT(message, desks, 1) AT(message, desk, 2) AT(message, cell, 3) AT(message, word, 4) AT(message, clock, 8) SIZE(message, 40)
+AT(answer, reply, 0) AT(answer, message, 12) SIZE(answer, 52)
+AT(started, code, 0) AT(started, record, 4) SIZE(started, 1396)
+AT(set_up, code, 0) AT(set_up, table, 4) SIZE(set_up, 10864)
+AT(reading, code, 0) AT(reading, message, 4) AT(reading, used, 48) SIZE(reading, 56)
+AT(written, code, 0) AT(written, used, 8) SIZE(written, 16)
 
 static int passed, failed;
 
@@ -66,39 +40,70 @@ static void expect(bool holds, const char *what, int line) {
 
 enum { READ = 1, WRITE = 2, TAKE = 3, BRING = 4, DROP = 5 };
 
+typedef uint8_t frame[CWMORLAIS_FRAME_BYTES];
+
+static const cwmorlais_record no_record;
+static const cwmorlais_table no_table;
+static const cwmorlais_message no_message;
+
+/* ---- What is the same, field by field */
+
 static bool same_clock(const cwmorlais_clock *a, const cwmorlais_clock *b) {
-    for (int i = 0; i < 8; i++) {
-        if (a->n[i] != b->n[i]) return false;
-    }
-    return true;
+    bool same = true;
+    for (int i = 0; i < 8; i++) same = same && a->n[i] == b->n[i];
+    return same;
+}
+
+static bool same_cell(const cwmorlais_cell *a, const cwmorlais_cell *b) {
+    return a->held == b->held && a->word == b->word && same_clock(&a->stamp, &b->stamp);
+}
+
+static bool same_slot(const cwmorlais_slot *a, const cwmorlais_slot *b) {
+    return a->kind == b->kind && a->cell == b->cell && a->word == b->word && same_clock(&a->clock, &b->clock);
+}
+
+static bool same_tray(const cwmorlais_tray *a, const cwmorlais_tray *b) {
+    bool same = a->desks == b->desks && a->cells == b->cells;
+    for (int c = 0; c < 32; c++) same = same && a->keepers[c] == b->keepers[c];
+    return same;
 }
 
 static bool same_record(const cwmorlais_record *a, const cwmorlais_record *b) {
-    const cwmorlais_slot *s = &a->slot, *t = &b->slot;
-    bool same = a->tray.desks == b->tray.desks && a->tray.cells == b->tray.cells && a->desk == b->desk && same_clock(&a->clock, &b->clock)
-        && s->kind == t->kind && s->cell == t->cell && s->word == t->word && same_clock(&s->clock, &t->clock) && a->served == b->served;
-    for (int c = 0; c < 32; c++) {
-        const cwmorlais_cell *x = &a->row[c], *y = &b->row[c];
-        same = same && a->tray.keepers[c] == b->tray.keepers[c];
-        same = same && x->held == y->held && x->word == y->word && same_clock(&x->stamp, &y->stamp);
+    bool same = same_tray(&a->tray, &b->tray) && a->desk == b->desk && same_clock(&a->clock, &b->clock) && same_slot(&a->slot, &b->slot)
+        && a->served == b->served;
+    for (int c = 0; c < 32; c++) same = same && same_cell(&a->row[c], &b->row[c]);
+    return same;
+}
+
+/* A desk's row of the table, with the tray and the desk's number. */
+static cwmorlais_record row_of(const cwmorlais_table *t, uint8_t d) {
+    cwmorlais_record v = {.tray = t->tray, .desk = d, .clock = t->clocks[d], .slot = t->slots[d], .served = t->served[d]};
+    for (int c = 0; c < 32; c++) v.row[c] = t->cells[d * 32 + c];
+    return v;
+}
+
+static bool same_table(const cwmorlais_table *a, const cwmorlais_table *b) {
+    bool same = true;
+    for (uint8_t d = 0; d < 8; d++) {
+        cwmorlais_record v = row_of(a, d), w = row_of(b, d);
+        same = same && same_record(&v, &w);
     }
     return same;
 }
 
-static bool no_message(cwmorlais_message m) {
-    cwmorlais_clock zero = {{0}};
-    return m.kind == 0 && m.desks == 0 && m.desk == 0 && m.cell == 0 && m.word == 0 && same_clock(&m.clock, &zero);
+static bool same_message(cwmorlais_message a, cwmorlais_message b) {
+    return a.kind == b.kind && a.desks == b.desks && a.desk == b.desk && a.cell == b.cell && a.word == b.word && same_clock(&a.clock, &b.clock);
 }
 
-static cwmorlais_record fresh(uint8_t desk, cwmorlais_tray tray) {
-    cwmorlais_record v = {.tray = tray, .desk = desk};
-    for (int c = 0; c < tray.cells; c++) {
-        v.row[c].held = tray.keepers[c] == desk;
-    }
-    return v;
+static bool is_reply(cwmorlais_reply r, uint32_t code, uint32_t value, uint32_t count) {
+    return r.code == code && r.value == value && r.count == count;
 }
 
-/* 01's script: kind, desk, cell, word, and then the line that it writes: code, value, count. */
+/* ---- 01's whole case */
+
+static const uint32_t keepers[32] = {1, 0};
+
+/* kind, desk, cell, word, and then the line that it writes: code, value, count */
 static const uint32_t whole_case[13][7] = {
     {READ, 0, 0, 0, 1, 0, 0},
     {TAKE, 0, 0, 0, 0, 0, 0},
@@ -115,69 +120,160 @@ static const uint32_t whole_case[13][7] = {
     {BRING, 0, 0, 0, 0, 27, 0},
 };
 
+static cwmorlais_record started(uint32_t desks, uint32_t cells, uint32_t desk) {
+    cwmorlais_started s = cwmorlais_desk_start(desks, cells, keepers, desk);
+    EXPECT(s.code == 0);
+    return s.record;
+}
+
+static cwmorlais_message received(const uint8_t *bytes) {
+    cwmorlais_reading r = cwmorlais_frame_read(bytes, CWMORLAIS_FRAME_BYTES);
+    EXPECT(r.code == 0 && r.used == 2u + bytes[1]);
+    return r.message;
+}
+
+/* One event by the desks. What a desk has asked, and its answer, is under way as a frame. */
+static cwmorlais_answer by_desks(cwmorlais_record *desk, frame *under_way, cwmorlais_event e) {
+    uint8_t *bytes = under_way[e.desk];
+    cwmorlais_message m = e.kind == TAKE || e.kind == BRING ? received(bytes) : no_message;
+    cwmorlais_answer a = e.kind == TAKE ? cwmorlais_desk_serve(&desk[keepers[m.cell]], m)
+        : e.kind == BRING ? cwmorlais_desk_bring(&desk[e.desk], m)
+        : cwmorlais_desk_event(&desk[e.desk], e);
+    if (a.reply.code == 1 || e.kind == TAKE) {
+        EXPECT(cwmorlais_frame_write(a.message, bytes, CWMORLAIS_FRAME_BYTES).code == 0);
+    } else {
+        EXPECT(same_message(a.message, no_message));
+    }
+    return a;
+}
+
+/* The rows are the records, but for an answer under way: it stands in the table's slot, while at the desk the slot stays asked. */
+static void hold_equal(const cwmorlais_table *t, const cwmorlais_record *desk, frame *under_way) {
+    for (uint8_t d = 0; d < 3; d++) {
+        cwmorlais_record row = row_of(t, d);
+        if (row.slot.kind > 2) {
+            cwmorlais_message m = received(under_way[d]);
+            cwmorlais_slot answered = {.kind = m.kind, .cell = m.cell, .word = m.word, .clock = m.clock};
+            EXPECT(same_slot(&row.slot, &answered));
+            row.slot = desk[d].slot;
+        }
+        EXPECT(same_record(&row, &desk[d]));
+    }
+}
+
 static void play_whole_case(void) {
-    cwmorlais_tray tray = {.desks = 3, .cells = 2, .keepers = {1, 0}};
-    cwmorlais_record desk[3] = {fresh(0, tray), fresh(1, tray), fresh(2, tray)};
-    cwmorlais_message under_way[3] = {{0}};
+    cwmorlais_record desk[3] = {started(3, 2, 0), started(3, 2, 1), started(3, 2, 2)};
+    cwmorlais_set_up s = cwmorlais_table_set_up(3, 2, keepers);
+    frame under_way[3];
+    EXPECT(s.code == 0);
+    hold_equal(&s.table, desk, under_way);
     for (int i = 0; i < 13; i++) {
         const uint32_t *line = whole_case[i];
-        uint32_t d = line[1];
-        cwmorlais_event e = {.kind = line[0], .desk = d, .cell = line[2], .word = line[3]};
-        cwmorlais_answer a;
-        if (e.kind == TAKE) {
-            a = cwmorlais_desk_serve(&desk[tray.keepers[under_way[d].cell]], under_way[d]);
-        } else if (e.kind == BRING) {
-            a = cwmorlais_desk_bring(&desk[d], under_way[d]);
-        } else {
-            a = cwmorlais_desk_event(&desk[d], e);
-        }
-        EXPECT(a.reply.code == line[4] && a.reply.value == line[5] && a.reply.count == line[6]);
-        EXPECT(no_message(a.message) == (a.reply.code != 1 && e.kind != TAKE));
-        under_way[d] = a.message;
+        cwmorlais_event e = {.kind = line[0], .desk = line[1], .cell = line[2], .word = line[3]};
+        EXPECT(is_reply(by_desks(desk, under_way, e).reply, line[4], line[5], line[6]));
+        EXPECT(is_reply(cwmorlais_table_event(&s.table, e), line[4], line[5], line[6]));
+        hold_equal(&s.table, desk, under_way);
     }
     EXPECT(desk[0].clock.n[2] == 2 && desk[1].clock.n[2] == 1 && desk[2].clock.n[2] == 2);
     EXPECT(desk[0].row[0].held && desk[0].row[0].word == 27 && desk[0].row[1].word == 500);
 }
 
+/* ---- Refusals */
+
+static void refuse_start(uint32_t code, uint32_t desks, uint32_t cells, const uint32_t *wanted, uint32_t desk) {
+    cwmorlais_started s = cwmorlais_desk_start(desks, cells, wanted, desk);
+    EXPECT(s.code == code && same_record(&s.record, &no_record));
+    if (code == 10) return; /* set-up has no desk's number */
+    cwmorlais_set_up u = cwmorlais_table_set_up(desks, cells, wanted);
+    EXPECT(u.code == code && same_table(&u.table, &no_table));
+}
+
+static void refuse_starts(void) {
+    const uint32_t no_desk[32] = {0, 3};
+    refuse_start(20, 0, 2, keepers, 0);
+    refuse_start(20, 9, 33, no_desk, 9);
+    refuse_start(21, 3, 0, keepers, 0);
+    refuse_start(21, 3, 33, no_desk, 3);
+    refuse_start(22, 3, 2, no_desk, 3);
+    refuse_start(10, 3, 2, keepers, 3);
+    refuse_start(10, 3, 1, no_desk, 3); /* a keeper past the cell count is ignored */
+}
+
 /* A refusal gives its number and an all-zero message, and changes nothing. */
-static void refuse(uint32_t code, cwmorlais_answer a, const cwmorlais_record *was, const cwmorlais_record *is) {
-    EXPECT(a.reply.code == code && a.reply.value == 0 && a.reply.count == 0);
-    EXPECT(no_message(a.message));
+static void refused(uint32_t code, cwmorlais_answer a, const cwmorlais_record *was, const cwmorlais_record *is) {
+    EXPECT(is_reply(a.reply, code, 0, 0));
+    EXPECT(same_message(a.message, no_message));
     EXPECT(same_record(was, is));
 }
 
-static void play_refusals(void) {
-    cwmorlais_tray tray = {.desks = 2, .cells = 4, .keepers = {0, 1, 0, 1}};
-    cwmorlais_record v = fresh(0, tray);
-    cwmorlais_message none = {0};
+static void refuse_at_a_desk(void) {
+    cwmorlais_record v = started(2, 4, 0); /* it keeps cells 1 to 3 */
     v.clock.n[0] = 4294967295;
     cwmorlais_record was = v;
-    refuse(8, cwmorlais_desk_event(&v, (cwmorlais_event){.kind = TAKE}), &was, &v);
-    refuse(11, cwmorlais_desk_event(&v, (cwmorlais_event){.kind = READ, .cell = 4}), &was, &v);
-    refuse(14, cwmorlais_desk_event(&v, (cwmorlais_event){.kind = DROP, .cell = 2}), &was, &v);
-    refuse(16, cwmorlais_desk_event(&v, (cwmorlais_event){.kind = WRITE, .cell = 2, .word = 7}), &was, &v);
-    refuse(13, cwmorlais_desk_bring(&v, none), &was, &v);
-    refuse(15, cwmorlais_desk_serve(&v, none), &was, &v);
+    refused(8, cwmorlais_desk_event(&v, (cwmorlais_event){.kind = TAKE}), &was, &v);
+    refused(11, cwmorlais_desk_event(&v, (cwmorlais_event){.kind = READ, .cell = 4}), &was, &v);
+    refused(14, cwmorlais_desk_event(&v, (cwmorlais_event){.kind = DROP, .cell = 2}), &was, &v);
+    refused(16, cwmorlais_desk_event(&v, (cwmorlais_event){.kind = WRITE, .cell = 2, .word = 7}), &was, &v);
+    refused(13, cwmorlais_desk_bring(&v, no_message), &was, &v);
+    refused(15, cwmorlais_desk_serve(&v, no_message), &was, &v);
 
     /* A read of a cell that is not held is asked for, whatever desk the event names. */
-    cwmorlais_answer a = cwmorlais_desk_event(&v, (cwmorlais_event){.kind = READ, .desk = 99, .cell = 1});
-    EXPECT(a.reply.code == 1 && a.message.kind == 1 && a.message.desks == 2 && a.message.desk == 0 && a.message.cell == 1);
-    EXPECT(v.slot.kind == 1 && v.slot.cell == 1 && !v.served);
+    cwmorlais_answer a = cwmorlais_desk_event(&v, (cwmorlais_event){.kind = READ, .desk = 99});
+    EXPECT(is_reply(a.reply, 1, 0, 0) && same_message(a.message, (cwmorlais_message){.kind = 1, .desks = 2}));
+    EXPECT(v.slot.kind == 1 && v.slot.cell == 0 && !v.served);
     was = v;
-    refuse(12, cwmorlais_desk_event(&v, (cwmorlais_event){.kind = READ}), &was, &v);
-    refuse(15, cwmorlais_desk_bring(&v, a.message), &was, &v);
+    refused(12, cwmorlais_desk_event(&v, (cwmorlais_event){.kind = READ}), &was, &v);
+    refused(15, cwmorlais_desk_bring(&v, a.message), &was, &v);
 
-    /* A cell past the count has a word: not sound. */
-    v.row[5].word = 1;
+    v.row[5].word = 1; /* past the cell count: not sound */
     was = v;
-    refuse(9, cwmorlais_desk_event(&v, (cwmorlais_event){.kind = READ}), &was, &v);
-    refuse(9, cwmorlais_desk_serve(&v, none), &was, &v);
-    refuse(9, cwmorlais_desk_bring(&v, none), &was, &v);
+    refused(9, cwmorlais_desk_event(&v, (cwmorlais_event){.kind = READ}), &was, &v);
+    refused(9, cwmorlais_desk_serve(&v, no_message), &was, &v);
+    refused(9, cwmorlais_desk_bring(&v, no_message), &was, &v);
+}
+
+static void refuse_write(uint32_t code, cwmorlais_message m, size_t room) {
+    frame out;
+    bool same = true;
+    for (int i = 0; i < CWMORLAIS_FRAME_BYTES; i++) out[i] = 170;
+    cwmorlais_written w = cwmorlais_frame_write(m, out, room);
+    for (int i = 0; i < CWMORLAIS_FRAME_BYTES; i++) same = same && out[i] == 170;
+    EXPECT(w.code == code && w.used == 0 && same);
+}
+
+static void refuse_frames(void) {
+    cwmorlais_message m = {.kind = 2, .desks = 3, .desk = 2, .cell = 1, .word = 500, .clock = {{0, 0, 2}}};
+    frame out = {[23] = 170};
+    cwmorlais_written w = cwmorlais_frame_write(m, out, CWMORLAIS_FRAME_BYTES);
+    EXPECT(w.code == 0 && w.used == 23 && out[23] == 170 && out[1] == 21 && out[9] == 1 && out[10] == 244 && out[22] == 2);
+    EXPECT(same_message(received(out), m));
+    refuse_write(37, m, 22);
+    m.clock.n[3] = 1;
+    refuse_write(38, m, 22);
+    m.desk = 3;
+    refuse_write(34, m, CWMORLAIS_FRAME_BYTES);
+    cwmorlais_reading cut = cwmorlais_frame_read(out, 22);
+    EXPECT(cut.code == 30 && cut.used == 0 && same_message(cut.message, no_message));
+    out[2] = 2;
+    EXPECT(cwmorlais_frame_read(out, 23).code == 31);
+}
+
+static void refuse_at_a_table(void) {
+    cwmorlais_set_up s = cwmorlais_table_set_up(3, 2, keepers);
+    cwmorlais_table was = s.table;
+    EXPECT(is_reply(cwmorlais_table_event(&s.table, (cwmorlais_event){.kind = TAKE}), 13, 0, 0) && same_table(&was, &s.table));
+    EXPECT(is_reply(cwmorlais_table_event(&s.table, (cwmorlais_event){.kind = READ, .desk = 3}), 10, 0, 0) && same_table(&was, &s.table));
+    s.table.served[7] = true; /* no such desk: not sound */
+    was = s.table;
+    EXPECT(is_reply(cwmorlais_table_event(&s.table, (cwmorlais_event){.kind = READ}), 9, 0, 0) && same_table(&was, &s.table));
 }
 
 int main(void) {
     play_whole_case();
-    play_refusals();
+    refuse_starts();
+    refuse_at_a_desk();
+    refuse_frames();
+    refuse_at_a_table();
     printf("lent_test: %d passed, %d failed\n", passed, failed);
     return failed != 0;
 }

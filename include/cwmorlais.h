@@ -1,32 +1,49 @@
-/* Cwmorlais: a desk's part, over the record that the desk's program lends it. Link with target/staticlib/liblent.a (x86-64).
+/* Cwmorlais: 1 to 8 desks share 1 to 32 cells, each cell kept by one desk. Link with target/staticlib/liblent.a (x86-64).
  *
- * Every function is proved to do what docs/PROMISES.md says, on every input. What a caller owes is what C cannot say:
- *   - the record is the caller's own, somewhere in memory and aligned to 4, and nobody else uses it until the function returns;
- *   - a bool is 0 or 1, also in a record that was read from a file.
- * Nothing is kept and nothing is freed. Bytes between fields have no meaning: compare records field by field. */
+ * A desk's program has the desk's record and the frames, and sends the frames itself. A program that plays all desks in one place has the
+ * table instead. Every function is proved to do what docs/PROMISES.md says, on every input. What a caller owes is what C cannot say:
+ *   - what a pointer names is the caller's own (aligned as its type says, an array as long as said), and nobody else uses it until the
+ *     function returns; what is const is only read;
+ *   - a bool is 0 or 1, also in a record or a table that was read from a file.
+ * Nothing is kept and nothing is freed. Bytes between fields have no meaning: compare field by field.
+ *
+ * A code of 8 and more is a refusal: the rest of the answer is zero, and what was lent is as it was. Each function lists its refusals in the
+ * order in which it looks:
+ *    8 the event's kind                     14 the desk keeps the cell            31 the version
+ *    9 the record or table is not sound     15 the message does not fit           32 the kind
+ *   10 the desk's number                    16 no clock number is left            33 the desk count is not 2 to 8
+ *   11 the cell's number                    20 desks not 1 to 8                   34 the asking desk, 35 the cell
+ *   12 the desk waits                       21 cells not 1 to 32                  36 the length
+ *   13 nothing asked, or no answer yet      22 a keeper that is no desk           37 the output is too short
+ *                                           30 the bytes end too early            38 a number that the frame would not carry */
 #ifndef CWMORLAIS_H
 #define CWMORLAIS_H
 
 #include <stdbool.h>
+#include <stddef.h>
 #include <stdint.h>
 
 #ifdef __cplusplus
 extern "C" {
 #endif
 
+/* The longest frame: 2 bytes of length, 5 of head, a word and 8 clock numbers. */
+#define CWMORLAIS_FRAME_BYTES 43
+
 /* One number per desk; those past the desk count are 0. */
 typedef struct {
     uint32_t n[8];
 } cwmorlais_clock;
 
-/* What a desk has of one cell. A cell that is not held has word 0 and the zero stamp. */
+/* What a desk has of one cell. A word of 0 means blank. A cell that is not held has word 0 and the zero stamp. */
 typedef struct {
     bool held;
     uint32_t word;
     cwmorlais_clock stamp;
 } cwmorlais_cell;
 
-/* What a desk waits for: kind 0 nothing, 1 read asked, 2 write asked (word, sent clock). */
+/* What a desk waits for: kind 0 nothing, 1 read asked, 2 write asked (word, sent clock); in a table also 3 read answered, 4 write answered
+ * (word, stamp). */
 typedef struct {
     uint8_t kind;
     uint8_t cell;
@@ -34,14 +51,14 @@ typedef struct {
     cwmorlais_clock clock;
 } cwmorlais_slot;
 
-/* How many desks (1 to 8) and cells (1 to 32), and each cell's keeper. */
+/* How many desks (1 to 8) and cells (1 to 32), and each cell's keeper; those past the cell count are 0. */
 typedef struct {
     uint8_t desks;
     uint8_t cells;
     uint8_t keepers[32];
 } cwmorlais_tray;
 
-/* A desk's record. A fresh one is all zero but for the tray, the desk's number and `held` of the cells that the desk keeps. */
+/* A desk's record. served: the desk served a write while it waited, so it must not keep the answer. */
 typedef struct {
     cwmorlais_tray tray;
     uint8_t desk;
@@ -51,7 +68,16 @@ typedef struct {
     bool served;
 } cwmorlais_record;
 
-/* Kinds 1 read, 2 write, 5 drop. The desk is not looked at: an event is for the desk whose record is lent. */
+/* All desks, with their messages under way in the slots. Desk d's cell c is cells[d * 32 + c]. */
+typedef struct {
+    cwmorlais_tray tray;
+    cwmorlais_clock clocks[8];
+    cwmorlais_slot slots[8];
+    bool served[8];
+    cwmorlais_cell cells[256];
+} cwmorlais_table;
+
+/* Kinds 1 read (cell), 2 write (cell, word), 3 take, 4 bring, 5 drop (cell). Fields that a kind does not use are ignored. */
 typedef struct {
     uint32_t kind;
     uint32_t desk;
@@ -59,7 +85,7 @@ typedef struct {
     uint32_t word;
 } cwmorlais_event;
 
-/* Codes 0 done, 1 asked, 2 blank; any other is a refusal, and the record is as it was. */
+/* Codes 0 done, 1 asked, 2 blank, or a refusal. The value is the cell's word, the count that of the copies dropped. */
 typedef struct {
     uint32_t code;
     uint32_t value;
@@ -82,14 +108,61 @@ typedef struct {
     cwmorlais_message message;
 } cwmorlais_answer;
 
-/* The desk's user wants something. With code 1 the message is the request: send it to the cell's keeper. */
+/* Code 0 and the record, or a refusal and an all-zero one. */
+typedef struct {
+    uint32_t code;
+    cwmorlais_record record;
+} cwmorlais_started;
+
+/* Code 0 and the table, or a refusal and an all-zero one. */
+typedef struct {
+    uint32_t code;
+    cwmorlais_table table;
+} cwmorlais_set_up;
+
+/* Code 0, the message and how many bytes its frame has; or a refusal, an all-zero message and 0. */
+typedef struct {
+    uint32_t code;
+    cwmorlais_message message;
+    size_t used;
+} cwmorlais_reading;
+
+/* Code 0 and how many bytes the frame has; or a refusal and 0. */
+typedef struct {
+    uint32_t code;
+    size_t used;
+} cwmorlais_written;
+
+/* ---- One desk, over its record */
+
+/* A desk's fresh record. Keepers past the cell count are ignored. Refuses 20, 21, 22, 10. */
+cwmorlais_started cwmorlais_desk_start(uint32_t desks, uint32_t cells, const uint32_t keepers[32], uint32_t desk);
+
+/* The desk's user wants something: kind 1, 2 or 5, for the desk whose record is lent, whatever desk e names. With code 1 the message is the
+ * request: send it to the cell's keeper. Refuses 9, 8, 11, 12, 14, 16. */
 cwmorlais_answer cwmorlais_desk_event(cwmorlais_record *v, cwmorlais_event e);
 
-/* A request came for a cell that this desk keeps. With code 0 the message is the answer: send it back. */
+/* A request came for a cell that this desk keeps. With code 0 the message is the answer: send it back. Refuses 9, 15. */
 cwmorlais_answer cwmorlais_desk_serve(cwmorlais_record *v, cwmorlais_message m);
 
-/* The answer came to what this desk asked. */
+/* The answer came to what this desk asked. Refuses 9, 13, 15. */
 cwmorlais_answer cwmorlais_desk_bring(cwmorlais_record *v, cwmorlais_message m);
+
+/* ---- Frames: a message as bytes. CWMORLAIS_FRAME_BYTES are enough for any. */
+
+/* The message whose frame the bytes start with; bytes after the frame are allowed. Refuses 30, 36, 31, 32, 33, 34, 35, 36. */
+cwmorlais_reading cwmorlais_frame_read(const uint8_t *bytes, size_t length);
+
+/* The frame of m, at the start of out; nothing past it is changed. Refuses 32, 33, 34, 35, 38, 37. */
+cwmorlais_written cwmorlais_frame_write(cwmorlais_message m, uint8_t *out, size_t length);
+
+/* ---- All desks, over a table */
+
+/* A fresh table. Keepers past the cell count are ignored. Refuses 20, 21, 22. */
+cwmorlais_set_up cwmorlais_table_set_up(uint32_t desks, uint32_t cells, const uint32_t keepers[32]);
+
+/* One event. Take: the keeper receives the request of e.desk. Bring: e.desk receives its answer. Refuses 9, 8, 10, 11, 12, 13, 14, 16. */
+cwmorlais_reply cwmorlais_table_event(cwmorlais_table *t, cwmorlais_event e);
 
 #ifdef __cplusplus
 }

@@ -17,7 +17,8 @@ use Rattle.desk.specs.Kept.{no-slot-rule}
 use Rattle.desk.specs.RuleLaws.{passed}
 use Rattle.desk.specs.Sound.{keeperSound, isSound}
 use Rattle.desk.specs.SoundLaws.{TrayRule, CellRule, RowRule, rule-sound, keeps-in, no-way}
-use Rattle.desk.specs.Start.{storedKeeper, freshTray, keeperRight, keepersRight, setUpRefusal, keptAlone, freshRecord, firstOf, startRefusal, answerStart, startRule}
+use Rattle.desk.specs.Start.{storedKeeper, freshTray, keeperRight, keepersRight, setUpRefusal}
+use Rattle.desk.specs.Start.{keptAlone, freshRecord, firstOf, startRefusal, answerStart, startRule}
 
 pub record Settled (desks cells : ℕ) (keepers : List ℕ) : Type 0 where
   pub some-desk : 1 ≤ desks
@@ -127,6 +128,7 @@ module _ (desks cells : ℕ) (keepers : List ℕ) (desk : ℕ) where
           → isSound (answerStart n (freshRecord (freshTray desks cells keepers) desk) .«record») ≡ true
       go zero none _ =
           let p = start-passed none in
-          rule-sound (freshRecord (freshTray desks cells keepers) desk)
-          (record { tray-is = fresh-tray desks cells keepers (p .0); row-is = fresh-row (freshTray desks cells keepers) desk (p .1); asked = omega arith })
+          let t = freshTray desks cells keepers in
+          rule-sound (freshRecord t desk)
+          (record { tray-is = fresh-tray desks cells keepers (p .0); row-is = fresh-row t desk (p .1); asked = omega arith })
       go (suc n) _ ok = absurd (omega arith)

@@ -61,7 +61,8 @@ plainRow T = record {
   coded = row T .coded;
 }
 
--- ---- what is lent, what its step gives, and how the step's answer and the new value are read out of local 3, where the step stands
+-- ---- what is lent, what its step gives, and how the code reads that out of local 3, where the step stands
+-- each field of the step s can be read there
 abbrev Parts : {M : Type 1} {𝓤 : URA M} {H : Heap 𝓤} {A : Atoms 𝓤} (S : Declared) → LL.Laws S → (K : Type 0) → Given 𝓤 H A
     → List (Item 𝓤) → WpEnv 𝓤 H → S .D → Type 2
 Parts S L K W Γ E s = (k : ℕ) (τ : Ty) (d : ℕ) → fieldAt zero (toTys (mirs (fields S))) k ≡ Opt.some (τ, d)
@@ -145,11 +146,18 @@ module _ (𝓛 : Lending) (X : Declared) where
 
 module _ (𝓛 : Lending) (X : Declared) (L : LL.Laws X) (P : Plains (fields X)) (rule : 𝓛 .lent .D → X .D → 𝓛 .step .D) {M : Type 1} (𝓤 : URA M)
     (H : Heap 𝓤) where
-  abbrev lentVals : 𝓛 .lent .D → List Val
-  lentVals v = LL.vals (𝓛 .lent) (𝓛 .lent-laws) v
-
+  -- the rows of what is lent, of the step and of the answer
   abbrev R : RattleType
   R = now-row 𝓛 X
+
+  abbrev S : RattleType
+  S = row (𝓛 .step)
+
+  abbrev B : RattleType
+  B = row (𝓛 .answer)
+
+  abbrev lentVals : 𝓛 .lent .D → List Val
+  lentVals v = LL.vals (𝓛 .lent) (𝓛 .lent-laws) v
 
   -- ---- the step's contract, and when one of the lent function over it holds of what the rule says
   abbrev stepClauses : Clauses 𝓤 (stepEnded 𝓛 X)
@@ -184,15 +192,15 @@ module _ (𝓛 : Lending) (X : Declared) (L : LL.Laws X) (P : Plains (fields X))
         says : (s : 𝓛 .step .D) → ent 𝓤 (ensured 𝓤 H A (stepEnded 𝓛 X) stepClauses tt (v, (x, tt)) tt s) (fact 𝓤 (s ≡ rule v x))
         says s = exE 𝓤 _ (λ ws. snd∗ 𝓤 (sem 𝓤 H A (lasts (stepEnded 𝓛 X) tt (v, (x, tt)) ws)) (fact 𝓤 (s ≡ rule v x)))
 
-        -- ---- the exit, with the step's record behind the reference
+        -- ---- the exit, with the step's new value behind the reference
         abbrev Post : c (κ, tt) args .ghost → Val → SProp 𝓤
         Post g = walkOf 𝓤 H A (lentEnded 𝓛 X) (stayed 𝓛 X) c .post (((κ, tt), (q, tt), tt, args, at), g)
 
-        -- the contract's `ensures`, at the answer and the record of the step s
+        -- the contract's `ensures`, at the answer and the new value of the step s
         abbrev ensured-of : c (κ, tt) args .ghost → 𝓛 .step .D → Type 1
         ensured-of g s = ent 𝓤 (emp 𝓤) (c (κ, tt) args .ensures g (𝓛 .answerOf s) (atExit (lentEnded 𝓛 X) (κ, tt) args (𝓛 .after s, (tt, tt))))
 
-        exits : (g : c (κ, tt) args .ghost) (s : 𝓛 .step .D) (w : Val) → Is (row (𝓛 .step)) s (w ∷ []) → s ≡ rule v x
+        exits : (g : c (κ, tt) args .ghost) (s : 𝓛 .step .D) (w : Val) → Is S s (w ∷ []) → s ≡ rule v x
             → ent 𝓤 (sep 𝓤 (A .obs γ (R .coded .code (𝓛 .after s))) (sep 𝓤 (A .bor κ (Body (mem R) b o γ)) (A .lft κ q)))
             (Post g (LL.val (𝓛 .answer) (𝓛 .answer-laws) (𝓛 .answerOf s)))
         exits g s w is e =
@@ -202,7 +210,7 @@ module _ (𝓛 : Lending) (X : Declared) (L : LL.Laws X) (P : Plains (fields X))
             suffices ! _ (beside 𝓤 _ (subst (ensured-of g) (sym e) (holds (κ, tt) args g))) $
             nothing ! $ move ! (3 ∷ 0 ∷ []) $ join ! $ frame ! $ feqI ! (List Val) (vptr b o ∷ []) (vptr b o ∷ []) refl $ fjoin3 ! $
             nothing ! $ owned ! (plainRow X) (Is (plainRow X)) (LL.makes X P 𝓤 H A) x _ is-x $ fjoin ! $ move ! (1 ∷ 0 ∷ []) $ fjoin ! $
-            owned ! (row (𝓛 .answer)) (Is (row (𝓛 .answer))) (LL.makes (𝓛 .answer) (𝓛 .answer-plain) 𝓤 H A) (𝓛 .answerOf s) _ (𝓛 .is-answer s _ is) $
+            owned ! B (Is B) (LL.makes (𝓛 .answer) (𝓛 .answer-plain) 𝓤 H A) (𝓛 .answerOf s) _ (𝓛 .is-answer s _ is) $
             move ! (1 ∷ 0 ∷ []) $ done !
 
         module _ (C : Calls 𝓤 H) (Λ : Loops 𝓤 H) (fm : FmC 𝓤 H (W .laws) C) (step : Name) (known : Triple 𝓤 (C step) StepMeets) where
@@ -227,13 +235,13 @@ module _ (𝓛 : Lending) (X : Declared) (L : LL.Laws X) (P : Plains (fields X))
               calls-at ! fm StepMeets known to-step (and-then ! (load ! (from ! (stop !)) (look ! 5 refl))
               (and-then ! (load ! (from ! (stop !)) (look ! 9 refl)) (no-more !))) (λ w.
               use1 W (later (some (λ (s : 𝓛 .step .D).
-              (‵ ftrue ⊛ ‵ ((row (𝓛 .step)) .own s (w ∷ []))) ⊛ raw (ensured 𝓤 H A (stepEnded 𝓛 X) stepClauses tt (v, (x, tt)) tt s)))) (id⊢ 𝓤 _) $
+              (‵ ftrue ⊛ ‵ (S .own s (w ∷ []))) ⊛ raw (ensured 𝓤 H A (stepEnded 𝓛 X) stepClauses tt (v, (x, tt)) tt s)))) (id⊢ 𝓤 _) $
               await ! tt $ pick ! (λ s. split ! $ move ! (1 ∷ []) $
               use1 W (raw (fact 𝓤 (s ≡ rule v x))) (says s) $ heard ! (s ≡ rule v x) (λ e.
-              split ! $ drop ! $ facts ! (row (𝓛 .step)) (Is (row (𝓛 .step))) (shows 𝓤 H A (row (𝓛 .step))) s (w ∷ []) (λ is.
+              split ! $ drop ! $ facts ! S (Is S) (shows 𝓤 H A S) s (w ∷ []) (λ is.
               -- [v's cell; the open borrow; obs; auth; _4; …; _3's room; …; _2; …; _1; …; _0's; …; true]
               land ! (from ! (stop !)) (init ! 6 refl (LL.lawful (𝓛 .step) (𝓛 .step-laws) 𝓤 H A W .typed s _ is .0)) $
-              rewrite ! 6 (λ (u : Val). ‵ (fat fullShare (lone (row (𝓛 .step) .mir)) l₃ 0 u)) (ap only (LL.tells (𝓛 .step) (𝓛 .step-laws) s (w ∷ []) is)) refl $
+              rewrite ! 6 (λ (u : Val). ‵ (fat fullShare (lone (S .mir)) l₃ 0 u)) (ap only (LL.tells (𝓛 .step) (𝓛 .step-laws) s (w ∷ []) is)) refl $
               -- its new value is stored, its answer is returned, and the borrow is closed
               assigns ! (𝓛 .reads-new ! s (λ k τ d f. load ! (from ! (fld ! f (stop !))) (look-in ! 6 (sub ! k f (whole !)))))
               (from ! (hop ! (look ! 10 refl) (stop !)))

@@ -117,7 +117,8 @@ module _ (desks cells : ℕ) (keepers : List ℕ) (long : length keepers ≡ 32)
 
   pub fresh-sound : setUpRefusal desks cells keepers ≡ 0 → tableSound (freshTable (freshTray desks cells keepers)) ≡ true
   fresh-sound none =
-      rule-table (freshTable (freshTray desks cells keepers)) (tray-fresh (freshTray desks cells keepers) (fresh-tray desks cells keepers none) stored)
+      let t = freshTray desks cells keepers in
+      rule-table (freshTable t) (tray-fresh t (fresh-tray desks cells keepers none) stored)
 
   -- what set-up gives: lengths always, and soundness with code 0
   pub set-up-sized : Sized (setUpRule desks cells keepers .table)

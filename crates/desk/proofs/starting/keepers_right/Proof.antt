@@ -39,7 +39,8 @@ loop-again c =
     let at-loop = c .before in
     let a = at-loop .before .args in
     let long : length (a .t3) ≡ 32 = search needs in
-    (omega arith, mapAt-turn (keeperRight (a .desks) (a .cells)) (a .t3) 0 (at-loop .loop .c) (at-loop .loop .right) (omega arith) (at-loop .loop .inv .1))
+    let turn = mapAt-turn (keeperRight (a .desks) (a .cells)) (a .t3) 0 (at-loop .loop .c) (at-loop .loop .right) in
+    (omega arith, turn (omega arith) (at-loop .loop .inv .1))
 
 returns : tie.Need-returns Inv-loop μ-loop
 unfolding keepersRight

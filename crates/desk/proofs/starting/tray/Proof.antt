@@ -54,14 +54,21 @@ loop-again : tie.Need-loop-again Inv-loop μ-loop
 loop-again c =
     let at-loop = c .before .before in
     let a = at-loop .before .args in
-    let k = at-loop .loop .c in
-    (omega arith, ap₂ (λ (l : List ℕ) (x : ℕ). set l k x) (at-loop .loop .inv .1) (c .stored-keeper .ensures) ∙ upTo-step (stored-at (a .cells) (a .t3)) k (replicate 32 0))
+    let k = at-loop .loop .c in (
+      omega arith,
+      ap₂ (λ (l : List ℕ) (x : ℕ). set l k x) (at-loop .loop .inv .1) (c .stored-keeper .ensures)
+          ∙ upTo-step (stored-at (a .cells) (a .t3)) k (replicate 32 0),
+    )
 
 cast-t16 : tie.Need-cast-t16 Inv-loop μ-loop
-cast-t16 c = omega (arith, settled (c .before .before .args .desks) (c .before .before .args .cells) (c .before .before .args .t3) (c .before .before .pre) .desks-most)
+cast-t16 c =
+    let a = c .before .before .args in
+    omega (arith, settled (a .desks) (a .cells) (a .t3) (c .before .before .pre) .desks-most)
 
 cast-t17 : tie.Need-cast-t17 Inv-loop μ-loop
-cast-t17 c = omega (arith, settled (c .before .before .args .desks) (c .before .before .args .cells) (c .before .before .args .t3) (c .before .before .pre) .cells-most)
+cast-t17 c =
+    let a = c .before .before .args in
+    omega (arith, settled (a .desks) (a .cells) (a .t3) (c .before .before .pre) .cells-most)
 
 returns : tie.Need-returns Inv-loop μ-loop
 unfolding freshTray
@@ -70,7 +77,11 @@ returns c =
     let a = at-loop .before .args in
     let long : length (a .t3) ≡ 32 = search needs in
     let end : at-loop .loop .c ≡ 32 = omega arith in
-    let all = upTo-all (stored-at (a .cells) (a .t3)) (at-loop .loop .c) (replicate 32 0) (mapAt (storedKeeper (a .cells)) (a .t3)) 0 (sym end) (omega (arith, length-mapAt (storedKeeper (a .cells)) (a .t3))) (λ k h. getD-mapAt (storedKeeper (a .cells)) (a .t3) k 0 0 (omega arith)) in
+    let store = storedKeeper (a .cells) in
+    let all =
+    upTo-all (stored-at (a .cells) (a .t3)) (at-loop .loop .c) (replicate 32 0) (mapAt store (a .t3)) 0 (sym end)
+    (omega (arith, length-mapAt store (a .t3))) (λ k h. getD-mapAt store (a .t3) k 0 0 (omega arith))
+    in
     λ i. record { desks = a .desks; cells = a .cells; keepers = (at-loop .loop .inv .1 ∙ all) i }
 
 pub tray-spec : {M : Type 1} → statement M

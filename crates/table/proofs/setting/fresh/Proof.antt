@@ -48,8 +48,11 @@ loop-again : tie.Need-loop-again Inv-loop μ-loop
 loop-again c =
     let at-loop = c .before .before in
     let t = at-loop .before .args .t in
-    let k = at-loop .loop .i in
-    (omega arith, ap₂ (λ (l : List Cell) (x : Cell). set l k x) (at-loop .loop .inv .1) (c .kept-alone .ensures) ∙ upTo-step (freshCell t) k (replicate 256 noCell))
+    let k = at-loop .loop .i in (
+      omega arith,
+      ap₂ (λ (l : List Cell) (x : Cell). set l k x) (at-loop .loop .inv .1) (c .kept-alone .ensures)
+          ∙ upTo-step (freshCell t) k (replicate 256 noCell),
+    )
 
 returns : tie.Need-returns Inv-loop μ-loop
 unfolding freshTable
@@ -58,7 +61,8 @@ returns c =
     let t = at-loop .before .args .t in
     let end : at-loop .loop .i ≡ 256 = omega arith in
     let all = upTo-mapAt (λ i _. freshCell t i) (at-loop .loop .i) (replicate 256 noCell) pastEnd (sym end) in
-    λ i. record { tray = t; clocks = replicate 8 zeroClock; slots = replicate 8 noSlot; served = replicate 8 false; cells = (at-loop .loop .inv .1 ∙ all) i }
+    let cells = at-loop .loop .inv .1 ∙ all in
+    λ i. record { tray = t; clocks = replicate 8 zeroClock; slots = replicate 8 noSlot; served = replicate 8 false; cells = cells i }
 
 pub fresh-spec : {M : Type 1} → statement M
 fresh-spec =
