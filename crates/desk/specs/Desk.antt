@@ -52,6 +52,9 @@ isBlank word stamp = eqb word 0
 unfoldable pub isLost : Tray → ℕ → Clock → ℕ → Cell → Bool
 isLost t desk learnt c x = isCopy t desk c x && isBefore (x .stamp) learnt
 
+abbrev pub losesIf : Bool → Clock → Cell → Bool
+losesIf kept learnt x = x .held && not kept && isBefore (x .stamp) learnt
+
 -- what is left of a row, and how many copies were lost
 abbrev pub leftAt : Tray → ℕ → Clock → ℕ → Cell → Cell
 leftAt t desk learnt c x = cond (isLost t desk learnt c x) noCell x

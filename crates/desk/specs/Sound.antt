@@ -13,8 +13,11 @@ use Rattle.desk.specs.declared.Tray.{Tray}
 use Rattle.desk.specs.Desk.{keeps, waits}
 
 -- a keeper is a desk; past the cell count it is 0
+abbrev pub keeperFits : Bool → ℕ → ℕ → Bool
+keeperFits used desks keeper = cond used (ltb keeper desks) (eqb keeper 0)
+
 unfoldable pub keeperSound : Tray → ℕ → ℕ → Bool
-keeperSound t c keeper = cond (ltb c (t .cells)) (ltb keeper (t .desks)) (eqb keeper 0)
+keeperSound t c keeper = keeperFits (ltb c (t .cells)) (t .desks) keeper
 
 -- "counts are in range; keepers are desks"
 unfoldable pub traySound : Tray → Bool
@@ -24,11 +27,12 @@ traySound t =
     && every (mapAt (keeperSound t) (t .keepers))
 
 -- a held cell is in range and its stamp has zeros past the desk count; one that is not held is not kept here and is all zero
+abbrev pub cellFits : Bool → Bool → ℕ → Cell → Bool
+cellFits used kept desks x =
+    cond (x .held) (used && isWithin desks (x .stamp)) (not kept && eqb (x .word) 0 && isWithin 0 (x .stamp))
+
 unfoldable pub cellSound : Tray → ℕ → ℕ → Cell → Bool
-cellSound t desk c x =
-    cond (x .held)
-    (ltb c (t .cells) && isWithin (t .desks) (x .stamp))
-    (not (keeps t desk c) && eqb (x .word) 0 && isWithin 0 (x .stamp))
+cellSound t desk c x = cellFits (ltb c (t .cells)) (keeps t desk c) (t .desks) x
 
 unfoldable pub cellsSound : Record → Bool
 cellsSound v = every (mapAt (cellSound (v .tray) (v .desk)) (v .row))

@@ -1,12 +1,10 @@
 // What a desk loses when it learns a clock: its copies strictly before that clock.
 ghost use mathlib.Core.Bool.{cond};
 ghost use mathlib.Core.Path.{_≡_};
-ghost use Prim.Native.Nat.{_<_};
-ghost use Rattle.desk.specs.Desk.{noCell, oneIf, isLost, leftOf, lossOf};
+ghost use Rattle.desk.specs.Desk.{noCell, oneIf, losesIf, leftOf, lossOf};
 use crate::Cell;
 use crate::NO_CELL;
 use crate::Tray;
-use crate::sound::keeps;
 use clock::Clock;
 
 // The row that is left, and how many copies were lost.
@@ -18,24 +16,22 @@ pub struct Loss {
 pub(crate) fn lose(t: Tray, desk: u8, learnt: Clock, row: [Cell; 32]) -> Loss
     ensures { λ r. ⌜ (r .row ≡ leftOf t desk learnt row) × (r .count ≡ lossOf t desk learnt row) ⌝ }
 {
+    let cells = t.cells as usize;
     let mut left = row;
     let mut count = 0;
     for c in 0..32 {
-        let lost = is_lost(t, desk, learnt, c, row[c]);
+        let kept = (c < cells) & (t.keepers[c] == desk);
+        let lost = is_lost(kept, learnt, row[c]);
         left[c] = unless_lost(row[c], lost);
         count += one_if(lost);
     }
     Loss { row: left, count }
 }
 
-fn is_lost(t: Tray, desk: u8, learnt: Clock, c: usize, x: Cell) -> bool
-    requires { ⌜ c < 32 ⌝ }
-    ensures { λ r. ⌜ r ≡ isLost t desk learnt c x ⌝ }
+fn is_lost(kept: bool, learnt: Clock, x: Cell) -> bool
+    ensures { λ r. ⌜ r ≡ losesIf kept learnt x ⌝ }
 {
-    if !x.held {
-        return false;
-    }
-    if keeps(t, desk, c) {
+    if !x.held | kept {
         return false;
     }
     let stamp = x.stamp;

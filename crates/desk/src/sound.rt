@@ -1,9 +1,8 @@
 // Whether a record is sound: each condition of 01, joined without branches.
 ghost use mathlib.Core.Path.{_≡_};
 ghost use Prim.Native.Nat.{_<_, _≤_};
-ghost use lib.ListN.{getD};
 ghost use Rattle.desk.specs.Desk.{keeps as keeps·def, waits as waits·def};
-ghost use Rattle.desk.specs.Sound.{keeperSound, traySound, cellSound, cellsSound, slotNames, slotCarries, rowSound, isSound};
+ghost use Rattle.desk.specs.Sound.{keeperFits, traySound, cellFits, cellsSound, slotNames, slotCarries, slotSound, rowSound, isSound};
 use crate::Cell;
 use crate::Record;
 use crate::Slot;
@@ -24,45 +23,47 @@ pub fn keeps(t: Tray, desk: u8, c: usize) -> bool
     (c < cells) & (t.keepers[c] == desk)
 }
 
-fn keeper_sound(t: Tray, c: usize) -> bool
-    requires { ⌜ c < 32 ⌝ }
-    ensures { λ r. ⌜ r ≡ keeperSound t c (getD (t .keepers) c 0) ⌝ }
+fn keeper_sound(used: bool, desks: u8, keeper: u8) -> bool
+    ensures { λ r. ⌜ r ≡ keeperFits used desks keeper ⌝ }
 {
-    let cells = t.cells as usize;
-    if c < cells {
-        return t.keepers[c] < t.desks;
+    if used {
+        return keeper < desks;
     }
-    t.keepers[c] == 0
+    keeper == 0
 }
 
 pub fn tray_sound(t: Tray) -> bool
     ensures { λ r. ⌜ r ≡ traySound t ⌝ }
 {
+    let cells = t.cells as usize;
     let mut ok = (1 <= t.desks) & (t.desks <= 8) & ((1 <= t.cells) & (t.cells <= 32));
     for c in 0..32 {
-        ok = ok & keeper_sound(t, c);
+        ok = ok & keeper_sound(c < cells, t.desks, t.keepers[c]);
     }
     ok
 }
 
-fn cell_sound(t: Tray, desk: u8, c: usize, x: Cell) -> bool
-    requires { ⌜ c < 32 ⌝ }
-    ensures { λ r. ⌜ r ≡ cellSound t desk c x ⌝ }
+// A cell of a desk: whether it is one of the tray's, and whether the desk keeps it.
+pub fn cell_sound(used: bool, kept: bool, desks: u8, x: Cell) -> bool
+    ensures { λ r. ⌜ r ≡ cellFits used kept desks x ⌝ }
 {
     let stamp = x.stamp;
-    let cells = t.cells as usize;
     if x.held {
-        return (c < cells) & stamp.within(t.desks);
+        return used & stamp.within(desks);
     }
-    !keeps(t, desk, c) & (x.word == 0) & stamp.within(0)
+    !kept & (x.word == 0) & stamp.within(0)
 }
 
 fn cells_sound(v: Record) -> bool
     ensures { λ r. ⌜ r ≡ cellsSound v ⌝ }
 {
+    let t = v.tray;
+    let cells = t.cells as usize;
     let mut ok = true;
     for c in 0..32 {
-        ok = ok & cell_sound(v.tray, v.desk, c, v.row[c]);
+        let used = c < cells;
+        let kept = used & (t.keepers[c] == v.desk);
+        ok = ok & cell_sound(used, kept, t.desks, v.row[c]);
     }
     ok
 }
@@ -91,19 +92,26 @@ fn slot_carries(t: Tray, s: Slot) -> bool
     clock.within(t.desks)
 }
 
-// A desk's row of the table, where its slot may be answered.
-pub fn row_sound(v: Record) -> bool
+// A slot as the table may have it, asked or answered.
+pub fn slot_sound(t: Tray, desk: u8, s: Slot) -> bool
+    requires { ⌜ t .cells ≤ 32 ⌝ }
+    ensures { λ r. ⌜ r ≡ slotSound t desk s ⌝ }
+{
+    (s.kind <= 4) & slot_names(t, desk, s) & slot_carries(t, s)
+}
+
+// A desk's row of the table.
+fn row_sound(v: Record) -> bool
     requires { ⌜ v .tray .cells ≤ 32 ⌝ }
     ensures { λ r. ⌜ r ≡ rowSound v ⌝ }
 {
     let t = v.tray;
     let s = v.slot;
     let clock = v.clock;
-    let slot_sound = (s.kind <= 4) & slot_names(t, v.desk, s) & slot_carries(t, s);
     (v.desk < t.desks)
         & clock.within(t.desks)
         & cells_sound(v)
-        & slot_sound
+        & slot_sound(t, v.desk, s)
         & (waits(s) | !v.served)
 }
 

@@ -24,6 +24,12 @@ pub fails : (b : Bool) → (b ≡ true → ⊥) → b ≡ false
 fails true no-way = absurd (no-way refl)
 fails false no-way = refl
 
+-- two tests that pass together are the same
+pub same-test : (a b : Bool) → (a ≡ true → b ≡ true) → (b ≡ true → a ≡ true) → a ≡ b
+same-test true b p q = sym (p refl)
+same-test false true p q = q refl
+same-test false false p q = refl
+
 pub both : {a b : Bool} → a ≡ true → b ≡ true → (a && b) ≡ true
 both p q = rw (p, q)
 

@@ -6,6 +6,7 @@ pub mod Places
 pub mod Rows
 pub mod RuleLaws
 pub mod Rules
+pub mod Scan
 pub mod SetUp
 pub mod Sound
 pub mod SoundLaws

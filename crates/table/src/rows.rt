@@ -1,15 +1,19 @@
 // A desk's record taken out of the table and put back, and whether all rows are sound.
 ghost use mathlib.Core.Path.{_≡_};
 ghost use Prim.Native.Nat.{_<_, _≤_};
-ghost use Rattle.table.specs.Sound.{cellZero, slotZero, rowZero, deskSound, tableSound};
+ghost use Rattle.table.specs.Scan.{cellsFit, restSound};
+ghost use Rattle.table.specs.Sound.{slotZero, tableSound};
 ghost use Rattle.table.specs.Table.{recordOf, putBack};
 use crate::NO_CELL;
 use crate::Table;
-use desk::Cell;
+use clock::Clock;
 use desk::Record;
 use desk::Slot;
-use desk::sound::row_sound;
+use desk::Tray;
+use desk::sound::cell_sound;
+use desk::sound::slot_sound;
 use desk::sound::tray_sound;
+use desk::sound::waits;
 
 pub(crate) fn record_of(t: Table, desk: u8) -> Record
     requires { ⌜ desk < 8 ⌝ }
@@ -47,13 +51,6 @@ pub(crate) fn put_back(t: Table, v: Record) -> Table
     after
 }
 
-fn cell_zero(x: Cell) -> bool
-    ensures { λ r. ⌜ r ≡ cellZero x ⌝ }
-{
-    let stamp = x.stamp;
-    !x.held & (x.word == 0) & stamp.within(0)
-}
-
 fn slot_zero(s: Slot) -> bool
     ensures { λ r. ⌜ r ≡ slotZero s ⌝ }
 {
@@ -61,26 +58,33 @@ fn slot_zero(s: Slot) -> bool
     (s.kind == 0) & (s.cell == 0) & (s.word == 0) & clock.within(0)
 }
 
-fn row_zero(v: Record) -> bool
-    ensures { λ r. ⌜ r ≡ rowZero v ⌝ }
+// What a desk has beside its cells; all zero where there is no such desk.
+fn rest_sound(t: Tray, desk: u8, clock: Clock, s: Slot, served: bool) -> bool
+    requires { ⌜ t .cells ≤ 32 ⌝ }
+    ensures { λ r. ⌜ r ≡ restSound t desk clock s served ⌝ }
 {
-    let clock = v.clock;
-    let mut ok = clock.within(0);
-    for c in 0..32 {
-        ok = ok & cell_zero(v.row[c]);
+    if desk < t.desks {
+        return clock.within(t.desks) & slot_sound(t, desk, s) & (waits(s) | !served);
     }
-    ok & slot_zero(v.slot) & !v.served
+    clock.within(0) & slot_zero(s) & !served
 }
 
-fn desk_sound(t: Table, desk: u8) -> bool
-    requires { ⌜ (desk < 8) × (t .tray .cells ≤ 32) ⌝ }
-    ensures { λ r. ⌜ r ≡ deskSound t desk ⌝ }
+// All cells of all desks in one walk: entry i is cell i % 32 of desk i / 32.
+fn cells_sound(t: Table) -> bool
+    ensures { λ r. ⌜ r ≡ cellsFit t ⌝ }
 {
-    let v = record_of(t, desk);
-    if desk < t.tray.desks {
-        return row_sound(v);
+    let tray = t.tray;
+    let desks = tray.desks as usize;
+    let cells = tray.cells as usize;
+    let mut ok = true;
+    for i in 0..256 {
+        let desk = i / 32;
+        let c = i % 32;
+        let used = (desk < desks) & (c < cells);
+        let kept = used & (tray.keepers[c] as usize == desk);
+        ok = ok & cell_sound(used, kept, tray.desks, t.cells[i]);
     }
-    row_zero(v)
+    ok
 }
 
 pub(crate) fn sound(t: Table) -> bool
@@ -91,7 +95,8 @@ pub(crate) fn sound(t: Table) -> bool
     }
     let mut ok = true;
     for desk in 0..8u8 {
-        ok = ok & desk_sound(t, desk);
+        let d = desk as usize;
+        ok = ok & rest_sound(t.tray, desk, t.clocks[d], t.slots[d], t.served[d]);
     }
-    ok
+    ok & cells_sound(t)
 }

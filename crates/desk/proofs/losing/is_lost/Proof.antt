@@ -1,28 +1,29 @@
--- `desk::losing::is_lost` meets its contract: at each return the tests say which part of the conjunction decides.
+-- `desk::losing::is_lost` meets its contract: a cell that is not held or is kept here is no copy; a copy is lost if its stamp is before.
 -- Assumes nothing.
 use borrow.Author.Needs.{needs}
-use borrow.Author.Tests.{not-true, not-false}
-use Rattle.desk.specs.Desk.{isCopy, isLost}
+use mathlib.Core.Path.{_≡_, refl}
+use mathlib.Core.Bool.{Bool, true, false, not, _&&_, _||_}
 use Rattle.desk.proofs.losing.is_lost.Statement.{statement}
 use Rattle.desk.proofs.losing.is_lost.Tie as tie
 
+no-copy : (held kept before : Bool) → (not held || kept) ≡ true → (held && not kept && before) ≡ false
+no-copy true true before e = refl
+no-copy true false before e = cc
+no-copy false kept before e = refl
+
+copy : (held kept before : Bool) → (not held || kept) ≡ false → (held && not kept && before) ≡ before
+copy true true before e = cc
+copy true false before e = refl
+copy false kept before e = cc
+
 returns : tie.Need-returns
-unfolding isLost isCopy
-returns c = rw (not-true (c .before .before .args .x .held) (c .if1 .taken))
-
-keeps-requires : tie.Need-keeps-requires
-keeps-requires c κs = search needs
-
-returns-2 : tie.Need-returns-2
-unfolding isLost isCopy
-returns-2 c = rw (not-false (c .before .before .before .before .args .x .held) (c .before .before .if1 .left), ← c .before .keeps .ensures, c .if2 .taken)
+returns c = rw (no-copy _ _ _ (c .if1 .taken))
 
 before-requires : tie.Need-before-requires
 before-requires c κs = search needs
 
-returns-3 : tie.Need-returns-3
-unfolding isLost isCopy
-returns-3 c = rw (not-false (c .before .before .before .before .before .before .args .x .held) (c .before .before .before .before .if1 .left), ← c .before .before .before .keeps .ensures, c .before .before .if2 .left, c .before2 .ensures)
+returns-2 : tie.Need-returns-2
+returns-2 c = rw (copy _ _ _ (c .before .before .if1 .left), c .before2 .ensures)
 
 pub is-lost-spec : {M : Type 1} → statement M
-is-lost-spec = tie.close (tie.spec returns keeps-requires returns-2 before-requires returns-3)
+is-lost-spec = tie.close (tie.spec returns before-requires returns-2)

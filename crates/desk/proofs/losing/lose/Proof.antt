@@ -15,7 +15,7 @@ use Rattle.lists.specs.Replaced.{upTo, upTo-step, upTo-mapAt}
 use Rattle.lists.specs.Sum.{sum, count-turn, count-end}
 use Rattle.desk.specs.declared.Cell.{Cell}
 use Rattle.desk.specs.declared.Tray.{Tray}
-use Rattle.desk.specs.Desk.{noCell, oneIf, pastEnd, cellAt, leftAt, lossAt, leftOf, lossOf}
+use Rattle.desk.specs.Desk.{noCell, oneIf, keeps, isCopy, isLost, pastEnd, cellAt, leftAt, lossAt, leftOf, lossOf}
 use Rattle.desk.proofs.losing.lose.Statement.{statement}
 use Rattle.desk.proofs.losing.lose.Tie as tie
 
@@ -28,16 +28,22 @@ abbrev left-at : Tray → ℕ → Clock → List Cell → ℕ → Cell
 left-at t desk learnt row k = leftAt t desk learnt k (cellAt row k)
 
 abbrev Inv-loop : tie.InvT-loop
-Inv-loop t desk learnt row left₀ count₀ c₀ left count c = (c ≤ 32) × (count ≤ c)
+Inv-loop desk learnt t row cells left₀ count₀ c₀ left count c = (c ≤ 32) × (count ≤ c)
     × (left ≡ upTo (left-at t desk learnt row) c row)
     × (sum (mapAt (lossAt t desk learnt) row) ≡ count + sum (drop c (mapAt (lossAt t desk learnt) row)))
 
 abbrev μ-loop : tie.MeasureT-loop
-μ-loop t desk learnt row left₀ count₀ c₀ left count c = 32 - c
+μ-loop desk learnt t row cells left₀ count₀ c₀ left count c = 32 - c
+
+cast-cells : tie.Need-cast-cells Inv-loop μ-loop
+cast-cells c = search needs
 
 loop-holds : tie.Need-loop-holds Inv-loop μ-loop
 unfolding upTo
-loop-holds c = (search needs, search needs, refl, sym (zero-add (sum (mapAt (lossAt (c .args .t) (c .args .desk) (c .args .learnt)) (c .args .t4)))))
+loop-holds c = (search needs, search needs, refl, sym (zero-add (sum (mapAt (lossAt (c .args .t1) (c .args .desk) (c .args .learnt)) (c .args .t4)))))
+
+element-copy-out-kept : tie.Need-element-copy-out-kept Inv-loop μ-loop
+element-copy-out-kept c = search needs
 
 mul-is-lost : tie.Need-mul-is-lost Inv-loop μ-loop
 mul-is-lost c = search needs
@@ -76,8 +82,9 @@ loop-less : tie.Need-loop-less Inv-loop μ-loop
 loop-less c = search needs
 
 loop-again : tie.Need-loop-again Inv-loop μ-loop
+unfolding isLost isCopy keeps
 loop-again c =
-    let at-loop = c .before .before .before .before .before .before in
+    let at-loop = c .before .before .before .before .before .before .before in
     let a = at-loop .before .args in
     let i = at-loop .loop .c in
     let here = cellAt (a .t4) i in
@@ -86,8 +93,8 @@ loop-again c =
       omega arith,
       omega (arith, c .one-if .ensures, one-if-le (c .before .before .before .is-lost .result)),
       ap₂ (λ (l : List Cell) (x : Cell). set l i x) (at-loop .loop .inv .2) (c .before .unless-lost .ensures ∙ ap (λ (b : Bool). cond b noCell here) lost)
-          ∙ upTo-step (left-at (a .t) (a .desk) (a .learnt) (a .t4)) i (a .t4),
-      rw (c .one-if .ensures, lost) (count-turn (lossAt (a .t) (a .desk) (a .learnt)) (a .t4) pastEnd i (at-loop .loop .count) (omega arith) (at-loop .loop .inv .3)),
+          ∙ upTo-step (left-at (a .t1) (a .desk) (a .learnt) (a .t4)) i (a .t4),
+      rw (c .one-if .ensures, lost) (count-turn (lossAt (a .t1) (a .desk) (a .learnt)) (a .t4) pastEnd i (at-loop .loop .count) (omega arith) (at-loop .loop .inv .3)),
     )
 
 returns : tie.Need-returns Inv-loop μ-loop
@@ -97,8 +104,8 @@ returns c =
     let a = at-loop .before .args in
     let long : length (a .t4) ≡ 32 = search (needs, length-mapped) in
     let end : at-loop .loop .c ≡ 32 = omega arith in (
-      at-loop .loop .inv .2 ∙ upTo-mapAt (leftAt (a .t) (a .desk) (a .learnt)) (at-loop .loop .c) (a .t4) pastEnd (omega arith),
-      sym (count-end (lossAt (a .t) (a .desk) (a .learnt)) (a .t4) pastEnd (at-loop .loop .c) (at-loop .loop .count) (omega arith) (at-loop .loop .inv .3)),
+      at-loop .loop .inv .2 ∙ upTo-mapAt (leftAt (a .t1) (a .desk) (a .learnt)) (at-loop .loop .c) (a .t4) pastEnd (omega arith),
+      sym (count-end (lossAt (a .t1) (a .desk) (a .learnt)) (a .t4) pastEnd (at-loop .loop .c) (at-loop .loop .count) (omega arith) (at-loop .loop .inv .3)),
     )
 
 pub lose-spec : {M : Type 1} → statement M
@@ -107,7 +114,9 @@ lose-spec =
     (tie.spec
     Inv-loop
     μ-loop
+    cast-cells
     loop-holds
+    element-copy-out-kept
     mul-is-lost
     array-copy-out-is-lost
     is-lost-requires

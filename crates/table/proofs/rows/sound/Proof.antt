@@ -9,7 +9,9 @@ use lib.ListN.{length, drop}
 use borrow.Author.Tests.{not-true, not-false}
 use Rattle.lists.specs.Each.{mapAt, length-mapped}
 use Rattle.lists.specs.Test.{every, mapAt-turn, mapAt-end}
-use Rattle.table.specs.Sound.{deskSound, tableSound}
+use Rattle.table.specs.Rows.{Sized}
+use Rattle.table.specs.Scan.{restAt, scan-sound}
+use Rattle.table.specs.Sound.{tableSound}
 use Rattle.table.specs.Table.{pastClock}
 use Rattle.clock.specs.declared.Clock.{Clock}
 use Rattle.table.specs.declared.Table.{Table}
@@ -17,13 +19,9 @@ use Rattle.desk.specs.SoundLaws.{tray-rule}
 use Rattle.table.proofs.rows.sound.Statement.{statement}
 use Rattle.table.proofs.rows.sound.Tie as tie
 
--- desk d is sound, whatever its clock
-abbrev sound-at : Table → ℕ → Clock → Bool
-sound-at t desk _ = deskSound t desk
-
 abbrev Inv-loop : tie.InvT-loop
 Inv-loop t ok₀ desk₀ ok desk = (desk ≤ 8) × (t .tray .cells ≤ 32)
-    × (every (mapAt (sound-at t) (t .clocks)) ≡ (ok && every (drop desk (mapAt (sound-at t) (t .clocks)))))
+    × (every (mapAt (restAt t) (t .clocks)) ≡ (ok && every (drop desk (mapAt (restAt t) (t .clocks)))))
 
 abbrev μ-loop : tie.MeasureT-loop
 μ-loop t ok₀ desk₀ ok desk = 8 - desk
@@ -36,10 +34,30 @@ unfolding tableSound
 returns c = rw (← c .before .tray-sound .ensures, not-true (c .before .tray-sound .result) (c .if1 .taken))
 
 loop-holds : tie.Need-loop-holds Inv-loop μ-loop
-loop-holds c = (search needs, tray-rule (c .before .before .args .t .tray) (sym (c .before .tray-sound .ensures) ∙ not-false (c .before .tray-sound .result) (c .if1 .left)) .cells-most, refl)
+loop-holds c =
+    let tray = sym (c .before .tray-sound .ensures) ∙ not-false (c .before .tray-sound .result) (c .if1 .left) in
+    (search needs, tray-rule (c .before .before .before .args .t1 .tray) tray .cells-most, refl)
 
-desk-sound-requires : tie.Need-desk-sound-requires Inv-loop μ-loop
-desk-sound-requires c κs = (omega arith, c .before .loop .inv .1)
+cast-d : tie.Need-cast-d Inv-loop μ-loop
+cast-d c = search needs
+
+mul-rest-sound : tie.Need-mul-rest-sound Inv-loop μ-loop
+mul-rest-sound c = search needs
+
+element-copy-out-rest-sound : tie.Need-element-copy-out-rest-sound Inv-loop μ-loop
+element-copy-out-rest-sound c = search needs
+
+mul-rest-sound-2 : tie.Need-mul-rest-sound-2 Inv-loop μ-loop
+mul-rest-sound-2 c = search needs
+
+element-copy-out-rest-sound-2 : tie.Need-element-copy-out-rest-sound-2 Inv-loop μ-loop
+element-copy-out-rest-sound-2 c = search needs
+
+element-copy-out-rest-sound-3 : tie.Need-element-copy-out-rest-sound-3 Inv-loop μ-loop
+element-copy-out-rest-sound-3 c = search needs
+
+rest-sound-requires : tie.Need-rest-sound-requires Inv-loop μ-loop
+rest-sound-requires c κs = search needs
 
 add-desk : tie.Need-add-desk Inv-loop μ-loop
 add-desk c = search needs
@@ -48,20 +66,37 @@ loop-less : tie.Need-loop-less Inv-loop μ-loop
 loop-less c = search needs
 
 loop-again : tie.Need-loop-again Inv-loop μ-loop
+unfolding restAt
 loop-again c =
-    let at-loop = c .before .before in
-    let t = c .before .before .before .before .before .args .t in
-    let long : length (t .clocks) ≡ 8 = search (needs, length-mapped, c .before .before .before .before .before .good .0) in
-    (omega arith, at-loop .loop .inv .1, rw (c .desk-sound .ensures) (mapAt-turn (sound-at t) (t .clocks) pastClock (at-loop .loop .desk) (at-loop .loop .ok) (omega arith) (at-loop .loop .inv .2)))
+    let at-loop = c .before .before .before .before .before .before in
+    let start = at-loop .before .before .before .before in
+    let t = start .args .t1 in
+    let long : length (t .clocks) ≡ 8 = search (needs, length-mapped, start .good .0) in (
+      omega arith,
+      at-loop .loop .inv .1,
+      rw (c .rest-sound .ensures)
+          (mapAt-turn (restAt t) (t .clocks) pastClock (at-loop .loop .desk) (at-loop .loop .ok) (omega arith) (at-loop .loop .inv .2)),
+    )
+
+cells-sound-requires : tie.Need-cells-sound-requires Inv-loop μ-loop
+cells-sound-requires c κs = search needs
 
 returns-2 : tie.Need-returns-2 Inv-loop μ-loop
-unfolding tableSound
 returns-2 c =
-    let at-loop = c .before in
-    let t = c .before .before .before .before .args .t in
-    let long : length (t .clocks) ≡ 8 = search (needs, length-mapped, c .before .before .before .before .good .0) in
-    rw (← c .before .before .before .tray-sound .ensures, not-false (c .before .before .before .tray-sound .result) (c .before .before .if1 .left))
-    (sym (mapAt-end (sound-at t) (t .clocks) pastClock (at-loop .loop .desk) (at-loop .loop .ok) (omega arith) (at-loop .loop .inv .2)))
+    let at-loop = c .before .before in
+    let start = at-loop .before .before .before .before in
+    let t = start .args .t1 in
+    let z : Sized t =
+    record {
+      all-keepers = search (needs, start .good .0);
+      all-clocks = search (needs, length-mapped, start .good .0);
+      all-slots = search (needs, length-mapped, start .good .0);
+      all-served = search (needs, length-mapped, start .good .0);
+      all-cells = search (needs, length-mapped, start .good .0);
+    } in
+    let asked = at-loop .before .before .tray-sound in
+    let rests = mapAt-end (restAt t) (t .clocks) pastClock (at-loop .loop .desk) (at-loop .loop .ok) (omega (arith, z .all-clocks)) (at-loop .loop .inv .2) in
+    rw (c .cells-sound .ensures, ← rests) (scan-sound t z (sym (asked .ensures) ∙ not-false (asked .result) (at-loop .before .if1 .left)))
 
 pub sound-spec : {M : Type 1} → statement M
 sound-spec =
@@ -72,8 +107,15 @@ sound-spec =
     tray-sound-requires
     returns
     loop-holds
-    desk-sound-requires
+    cast-d
+    mul-rest-sound
+    element-copy-out-rest-sound
+    mul-rest-sound-2
+    element-copy-out-rest-sound-2
+    element-copy-out-rest-sound-3
+    rest-sound-requires
     add-desk
     loop-less
     loop-again
+    cells-sound-requires
     returns-2)
