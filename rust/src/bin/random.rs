@@ -11,13 +11,20 @@ fn main() {
     let mut table = Table::new(desks, cells, &keepers).expect("a good set-up");
     let mood = Mood::new(&mut rng);
 
-    let kept: Vec<String> = keepers[..cells as usize].iter().map(u32::to_string).collect();
+    let kept: Vec<String> = keepers[..cells as usize]
+        .iter()
+        .map(u32::to_string)
+        .collect();
     let mut script = format!("{desks} {cells}\n{}\n", kept.join(" "));
     while script.len() < 65_490 {
         let event = mood.event_at(&mut rng, &table);
         table.event(&event);
-        writeln!(script, "{} {} {} {}", event.kind, event.desk, event.cell, event.word)
-            .expect("a string takes all");
+        writeln!(
+            script,
+            "{} {} {} {}",
+            event.kind, event.desk, event.cell, event.word
+        )
+        .expect("a string takes all");
     }
     print!("{script}");
 }
