@@ -4,6 +4,7 @@
 //! against the curator's wish that no coordinate stands beside an older datum.
 
 use std::collections::VecDeque;
+use std::ops::AddAssign;
 use std::sync::atomic::{AtomicBool, AtomicU64, AtomicUsize, Ordering};
 use std::sync::mpsc::{channel, Receiver, Sender};
 use std::thread;
@@ -15,42 +16,65 @@ use crate::ghost::Ghost;
 use crate::history::{Broken, Causal, Does, History};
 use crate::{frame, Event, Message, Record, Refusal, Reply, Table, CELLS, DESKS};
 
-/// A desk's part and the frames, by whoever makes them.
+/// A desk's part and the frames, by whoever makes them. What is not said is done by the twin.
 pub trait Part {
+    /// A fresh record, or the number of a refusal.
+    fn start(desks: u32, cells: u32, keepers: &[u32; CELLS], desk: u32) -> Result<Record, u32> {
+        Record::new(desks, cells, keepers, desk).map_err(number)
+    }
+
     /// Reads, writes or drops; code 1 comes with the request to send.
-    fn event(record: &mut Record, event: &Event) -> (Reply, Message);
+    fn event(record: &mut Record, event: &Event) -> (Reply, Message) {
+        record.event(event)
+    }
+
     /// Answers a request.
-    fn serve(record: &mut Record, request: &Message) -> (Reply, Message);
+    fn serve(record: &mut Record, request: &Message) -> (Reply, Message) {
+        record.serve(request)
+    }
+
     /// Receives an answer.
-    fn bring(record: &mut Record, answer: &Message) -> Reply;
+    fn bring(record: &mut Record, answer: &Message) -> Reply {
+        record.bring(answer)
+    }
+
     /// A message and the bytes its frame used, or the number of a refusal.
-    fn read(bytes: &[u8]) -> Result<(Message, usize), u32>;
+    fn read(bytes: &[u8]) -> Result<(Message, usize), u32> {
+        frame::read(bytes).map_err(number)
+    }
+
     /// The bytes a frame used, or the number of a refusal.
-    fn write(message: &Message, out: &mut [u8]) -> Result<usize, u32>;
+    fn write(message: &Message, out: &mut [u8]) -> Result<usize, u32> {
+        frame::write(message, out).map_err(number)
+    }
 }
 
 /// The part as this library makes it.
 pub struct Twin;
 
-impl Part for Twin {
-    fn event(record: &mut Record, event: &Event) -> (Reply, Message) {
-        record.event(event)
+impl Part for Twin {}
+
+/// The table of all desks, by whoever makes it.
+pub trait Engine: Sized {
+    /// A fresh table, or the number of a refusal.
+    fn set_up(desks: u32, cells: u32, keepers: &[u32; CELLS]) -> Result<Self, u32>;
+    /// Does one event.
+    fn event(&mut self, event: &Event) -> Reply;
+    /// What it holds now, as the twin has it.
+    fn table(&self) -> Table;
+}
+
+impl Engine for Table {
+    fn set_up(desks: u32, cells: u32, keepers: &[u32; CELLS]) -> Result<Table, u32> {
+        Table::new(desks, cells, keepers).map_err(number)
     }
 
-    fn serve(record: &mut Record, request: &Message) -> (Reply, Message) {
-        record.serve(request)
+    fn event(&mut self, event: &Event) -> Reply {
+        self.event(event)
     }
 
-    fn bring(record: &mut Record, answer: &Message) -> Reply {
-        record.bring(answer)
-    }
-
-    fn read(bytes: &[u8]) -> Result<(Message, usize), u32> {
-        frame::read(bytes).map_err(number)
-    }
-
-    fn write(message: &Message, out: &mut [u8]) -> Result<usize, u32> {
-        frame::write(message, out).map_err(number)
+    fn table(&self) -> Table {
+        *self
     }
 }
 
@@ -116,7 +140,7 @@ pub fn run<P: Part>(seed: u64, turns: usize) -> Run {
             .into_iter()
             .zip(0..)
             .map(|(inbox, desk)| {
-                let record = Record::new(DESKS as u32, CELL_COUNT, &keepers, desk);
+                let record = P::start(DESKS as u32, CELL_COUNT, &keepers, desk);
                 let seat = Seat {
                     record: record.expect("a good set-up"),
                     rng: Rng::new(rng.bits()),
@@ -332,7 +356,7 @@ impl Seat<'_> {
 }
 
 /// How much a check has looked at.
-#[derive(Clone, Copy, Debug, Default)]
+#[derive(Clone, Copy, Debug, Default, PartialEq, Eq)]
 pub struct Checked {
     /// Steps replayed; each reply and the record afterwards agreed.
     pub steps: usize,
@@ -344,34 +368,44 @@ pub struct Checked {
     pub datums_after_coordinates: usize,
 }
 
+impl AddAssign for Checked {
+    fn add_assign(&mut self, more: Checked) {
+        self.steps += more.steps;
+        self.served_waiting += more.served_waiting;
+        self.operations += more.operations;
+        self.datums_after_coordinates += more.datums_after_coordinates;
+    }
+}
+
 /// Holds a run against the rules.
 ///
-/// - A table does the same events in the same order: each reply is the same, and after each step
+/// - An engine does the same events in the same order: each reply is the same, and after each step
 ///   the record is its desk's row of the table (a slot answered there is still asked in the
 ///   record). At the end all records are the rows, and nobody waits.
 /// - Every desk has the line-up of demand 3.
 /// - A coordinate's writer knew versions of its datum: those it had itself written or read before.
 ///   Any desk that has read that coordinate never again reads blank, or a version of the datum
 ///   that the keeper had stored earlier than the newest of these.
-pub fn check(run: &Run) -> Result<Checked, String> {
+pub fn check<E: Engine>(run: &Run) -> Result<Checked, String> {
     let mut checked = Checked::default();
-    let mut table = Table::new(DESKS as u32, CELL_COUNT, &run.keepers)
-        .map_err(|refusal| format!("set-up refused: {refusal:?}"))?;
-    let mut ghost = Ghost::new(&table.tray, None);
+    let mut engine = E::set_up(DESKS as u32, CELL_COUNT, &run.keepers)
+        .map_err(|refusal| format!("set-up refused: {refusal}"))?;
+    let mut ghost = Ghost::new(&engine.table().tray, None);
     for step in &run.steps {
         let is_take = step.event.kind == kind::TAKE;
         let waits = step.after.slot.kind != slot::EMPTY;
         checked.served_waiting += usize::from(is_take && waits);
-        let reply = table.event(&step.event);
+        let reply = engine.event(&step.event);
         if reply != step.reply || reply != ghost.event(&step.event) {
             return Err(format!("the table replies {reply:?} to {step:?}"));
         }
-        if !is_row_of(&step.after, &table) {
+        if !is_row_of(&step.after, &engine.table()) {
             return Err(format!("another record after {step:?}"));
         }
         checked.steps += 1;
     }
-    if let Some(desk) = (0..DESKS).find(|&desk| table.rows[desk].slot.kind != slot::EMPTY) {
+    let rows = engine.table().rows;
+    if let Some(desk) = (0..DESKS).find(|&desk| rows[desk].slot.kind != slot::EMPTY) {
         return Err(format!("desk {desk} still waits"));
     }
     checked.operations = ghost.history().len();

@@ -2,18 +2,14 @@
 
 use twin::eight::{check, no_older_datum, run, Checked, Part, Twin};
 use twin::ghost::{Ghost, Shortcut};
-use twin::{Event, Message, Record, Refusal, Reply, Tray};
+use twin::{Message, Record, Refusal, Reply, Table, Tray};
 
 #[test]
 fn eight_desks_do_what_the_table_does() {
     let mut sum = Checked::default();
     for seed in 0..40 {
         let run = run::<Twin>(seed, 150);
-        let checked = check(&run).unwrap_or_else(|why| panic!("seed {seed}: {why}"));
-        sum.steps += checked.steps;
-        sum.served_waiting += checked.served_waiting;
-        sum.operations += checked.operations;
-        sum.datums_after_coordinates += checked.datums_after_coordinates;
+        sum += check::<Table>(&run).unwrap_or_else(|why| panic!("seed {seed}: {why}"));
     }
     println!("{sum:?}");
     assert!(
@@ -26,25 +22,9 @@ fn eight_desks_do_what_the_table_does() {
 struct KeepsServed;
 
 impl Part for KeepsServed {
-    fn event(record: &mut Record, event: &Event) -> (Reply, Message) {
-        Twin::event(record, event)
-    }
-
-    fn serve(record: &mut Record, request: &Message) -> (Reply, Message) {
-        Twin::serve(record, request)
-    }
-
     fn bring(record: &mut Record, answer: &Message) -> Reply {
         record.served = false;
-        Twin::bring(record, answer)
-    }
-
-    fn read(bytes: &[u8]) -> Result<(Message, usize), u32> {
-        Twin::read(bytes)
-    }
-
-    fn write(message: &Message, out: &mut [u8]) -> Result<usize, u32> {
-        Twin::write(message, out)
+        record.bring(answer)
     }
 }
 
@@ -54,7 +34,7 @@ fn desks_that_keep_what_they_should_not_are_found_out() {
     let mut disagreed = 0;
     let found = (0..3_000).find(|&seed| {
         let run = run::<KeepsServed>(seed, 150);
-        disagreed += u64::from(check(&run).is_err());
+        disagreed += u64::from(check::<Table>(&run).is_err());
         // Played by the same wrong rule the replies agree, and only the curator notices.
         let tray = Tray::new(8, 12, &run.keepers).expect("a good set-up");
         let mut ghost = Ghost::new(&tray, Some(Shortcut::KeepServed));
@@ -76,24 +56,8 @@ fn desks_that_keep_what_they_should_not_are_found_out() {
 struct ServesNobody;
 
 impl Part for ServesNobody {
-    fn event(record: &mut Record, event: &Event) -> (Reply, Message) {
-        Twin::event(record, event)
-    }
-
     fn serve(_: &mut Record, _: &Message) -> (Reply, Message) {
         (Refusal::Unfit.into(), Message::ZERO)
-    }
-
-    fn bring(record: &mut Record, answer: &Message) -> Reply {
-        Twin::bring(record, answer)
-    }
-
-    fn read(bytes: &[u8]) -> Result<(Message, usize), u32> {
-        Twin::read(bytes)
-    }
-
-    fn write(message: &Message, out: &mut [u8]) -> Result<usize, u32> {
-        Twin::write(message, out)
     }
 }
 

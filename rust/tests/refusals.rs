@@ -5,7 +5,7 @@ use twin::data::{kind, slot};
 use twin::gen::{self, Mood, Rng, BREAKS, FIELDS};
 use twin::ghost::Ghost;
 use twin::table::Row;
-use twin::{Cell, Clock, Event, Message, Record, Slot, Table};
+use twin::{Cell, Clock, Event, Message, Record, Reply, Slot, Table};
 
 /// A sound table, clause by clause.
 fn is_sound(table: &Table) -> bool {
@@ -243,36 +243,26 @@ fn every_desks_part_refuses_by_the_first_line_that_applies() {
             gen::break_record(&mut rng, &mut given);
         }
         let event = gen::wild_event(&mut rng, &given.tray);
-        let mut record = given;
-        let (reply, request) = record.event(&event);
-        events.add(reply.code);
-        let number = part_refusal(&given, &event);
-        check_part(seed, number, reply.code, &given, &record);
-        assert_eq!(request == Message::ZERO, reply.code != 1, "seed {seed}");
-
         let message = gen::message_for(&mut rng, &given);
-        let mut record = given;
-        let (reply, answer) = record.serve(&message);
-        serves.add(reply.code);
-        check_part(
-            seed,
-            serve_refusal(&given, &message),
-            reply.code,
-            &given,
-            &record,
-        );
-        assert_eq!(answer == Message::ZERO, reply.code != 0, "seed {seed}");
-
-        let mut record = given;
-        let reply = record.bring(&message);
-        brings.add(reply.code);
-        check_part(
-            seed,
-            bring_refusal(&given, &message),
-            reply.code,
-            &given,
-            &record,
-        );
+        // What is refused, and the code that comes with a message.
+        let hold = |tally: &mut Tally, number, sends, step: &dyn Fn(&mut Record) -> _| {
+            let mut record = given;
+            let (reply, sent): (Reply, Message) = step(&mut record);
+            tally.add(reply.code);
+            check_part(seed, number, reply.code, &given, &record);
+            let is_sent = sends == Some(reply.code);
+            assert_eq!(sent != Message::ZERO, is_sent, "seed {seed}");
+        };
+        let number = part_refusal(&given, &event);
+        hold(&mut events, number, Some(1), &|record| record.event(&event));
+        let number = serve_refusal(&given, &message);
+        hold(&mut serves, number, Some(0), &|record| {
+            record.serve(&message)
+        });
+        let number = bring_refusal(&given, &message);
+        hold(&mut brings, number, None, &|record| {
+            (record.bring(&message), Message::ZERO)
+        });
     }
     events.expect("a part's events", &[0, 8, 9, 11, 12, 14, 16]);
     serves.expect("serve", &[0, 9, 15]);

@@ -3,6 +3,7 @@
 use std::process::ExitCode;
 
 use twin::eight::{check, run, Twin};
+use twin::Table;
 
 fn main() -> ExitCode {
     let given: Result<Vec<u64>, _> = std::env::args().skip(1).map(|arg| arg.parse()).collect();
@@ -14,7 +15,7 @@ fn main() -> ExitCode {
     let (first, seeds, turns) = (or(0, 1), or(1, 10), or(2, 150));
     for seed in first..first + seeds {
         let run = run::<Twin>(seed, turns as usize);
-        match check(&run) {
+        match check::<Table>(&run) {
             Ok(checked) => println!("seed {seed}: {} frames, {checked:?}", run.frames),
             Err(why) => {
                 println!("seed {seed}: {why}");
