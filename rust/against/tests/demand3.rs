@@ -1,11 +1,9 @@
 //! Demand 3 on what the proved table replies. No two writes of a run have the same word, and none
 //! is 0, so that the replies alone tell which write each read came from; no engine is asked.
 
-mod common;
-
 use std::collections::HashMap;
 
-use common::ProvedTable;
+use against::ProvedTable;
 use twin::data::{code, kind};
 use twin::eight::Engine;
 use twin::gen::{good_setup, Mood, Rng};

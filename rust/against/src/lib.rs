@@ -1,5 +1,9 @@
-//! The twin's data as the library's and back, field by field; and counts of what was seen.
-#![allow(dead_code)] // each test file uses its part
+//! The proved library and the twin, held against each other: the data of one as the other's, field
+//! by field; the library as a part and an engine of the twin's test tools; and counts of what a
+//! test saw. The tests are in `tests/`, the benchmark is `src/bin/bench.rs`.
+
+#![forbid(unsafe_code)]
+#![warn(missing_docs)]
 
 use cwmorlais::sys;
 use twin::eight::{Engine, Part};
@@ -8,6 +12,7 @@ use twin::{Cell, Clock, Event, Message, Record, Reply, Slot, Table, Tray};
 
 /// The same value in the other's type.
 pub trait Same<T> {
+    /// Every field as it is.
     fn same(&self) -> T;
 }
 
@@ -144,15 +149,24 @@ impl Engine for ProvedTable {
 }
 
 /// How often each code was given.
-pub struct Tally(pub [u64; 39]);
+pub struct Tally([u64; 39]);
 
-impl Tally {
-    pub fn new() -> Tally {
+impl Default for Tally {
+    fn default() -> Tally {
         Tally([0; 39])
     }
+}
 
+impl Tally {
+    /// One more.
     pub fn add(&mut self, code: u32) {
         self.0[code as usize] += 1;
+    }
+
+    /// How often this code was given.
+    #[must_use]
+    pub fn of(&self, code: u32) -> u64 {
+        self.0[code as usize]
     }
 
     /// Says what was seen: each of these codes at least so often, and no other.
@@ -164,7 +178,7 @@ impl Tally {
             seen().collect::<Vec<(u32, u64)>>()
         );
         for &code in codes {
-            let count = self.0[code as usize];
+            let count = self.of(code);
             assert!(count >= least, "{what}: code {code} only {count} times");
         }
         for (code, _) in seen() {

@@ -1,9 +1,7 @@
 //! Eight desks as eight records of the proved library in eight threads, with nothing but its frames
 //! between them. Threads are not repeatable; what they did is, and both engines replay it.
 
-mod common;
-
-use common::{Proved, ProvedTable};
+use against::{Proved, ProvedTable};
 use twin::eight::{check, run, Checked, Part};
 use twin::{Event, Message, Record, Reply, Table};
 

@@ -2,9 +2,7 @@
 //! same input every field of reply, message, record, table and output is the same. All inputs come
 //! from seeds, and each test says how much of each kind it saw.
 
-mod common;
-
-use common::{Same, Tally};
+use against::{Same, Tally};
 use cwmorlais::sys;
 use twin::data::slot;
 use twin::gen::{self, Mood, Rng, BREAKS, FIELDS};
@@ -52,12 +50,12 @@ fn parts(tallies: &mut [Tally; 3], given: &Record, event: &Event, message: &Mess
 }
 
 fn three() -> [Tally; 3] {
-    [Tally::new(), Tally::new(), Tally::new()]
+    [Tally::default(), Tally::default(), Tally::default()]
 }
 
 #[test]
 fn runs_of_the_table() {
-    let mut tally = Tally::new();
+    let mut tally = Tally::default();
     for seed in 0..20_000 {
         let mut rng = Rng::new(seed);
         // A fresh table, or any sound one.
@@ -79,7 +77,7 @@ fn runs_of_the_table() {
 /// The library's own table goes on and on, and is never set right by the twin's.
 #[test]
 fn one_long_run_of_each_shape() {
-    let mut tally = Tally::new();
+    let mut tally = Tally::default();
     for desks in 1..=8 {
         for cells in 1..=32 {
             let mut rng = Rng::new(u64::from(100 * desks + cells));
@@ -102,7 +100,7 @@ fn one_long_run_of_each_shape() {
 
 #[test]
 fn tables_that_are_not_sound() {
-    let mut tally = Tally::new();
+    let mut tally = Tally::default();
     let mut counts = vec![0; BREAKS.len()];
     for seed in 0..3_000 {
         for (&(name, broken), count) in BREAKS.iter().zip(&mut counts) {
@@ -110,9 +108,9 @@ fn tables_that_are_not_sound() {
             let mut table = gen::table(&mut rng);
             if broken(&mut rng, &mut table) {
                 let event = gen::wild_event(&mut rng, &table.tray);
-                let before = tally.0[9];
+                let before = tally.of(9);
                 table_event(&mut tally, &table, &event, seed);
-                assert_eq!(tally.0[9], before + 1, "seed {seed}: {name}");
+                assert_eq!(tally.of(9), before + 1, "seed {seed}: {name}");
                 *count += 1;
             }
         }
@@ -126,7 +124,7 @@ fn tables_that_are_not_sound() {
 /// Every field of a table, one after the other, with values that are right and wrong there.
 #[test]
 fn tables_with_every_field_changed() {
-    let mut tally = Tally::new();
+    let mut tally = Tally::default();
     for seed in 0..24 {
         let mut rng = Rng::new(seed);
         let given = gen::table(&mut rng);
@@ -145,7 +143,7 @@ fn tables_with_every_field_changed() {
 /// Up to three fields changed at once.
 #[test]
 fn scrambled_tables() {
-    let mut tally = Tally::new();
+    let mut tally = Tally::default();
     for seed in 0..100_000 {
         let mut rng = Rng::new(seed);
         let mut table = gen::table(&mut rng);
@@ -341,7 +339,7 @@ fn frame_write(tally: &mut Tally, message: &Message, room: usize, seed: u64) {
 
 #[test]
 fn frames_read() {
-    let mut tally = Tally::new();
+    let mut tally = Tally::default();
     for seed in 0..400_000 {
         let mut rng = Rng::new(seed);
         frame_read(&mut tally, &gen::damaged_frame(&mut rng), seed);
@@ -377,7 +375,7 @@ fn frames_read() {
 
 #[test]
 fn frames_written() {
-    let mut tally = Tally::new();
+    let mut tally = Tally::default();
     for seed in 0..400_000 {
         let mut rng = Rng::new(seed);
         let message = gen::any_message(&mut rng);
@@ -396,7 +394,7 @@ fn frames_written() {
 
 #[test]
 fn set_up_and_start() {
-    let mut tallies = [Tally::new(), Tally::new()];
+    let mut tallies = [Tally::default(), Tally::default()];
     let mut hold = |desks, cells, keepers: &[u32; 32], desk| {
         let what = (desks, cells, keepers, desk);
         let ours = sys::table_set_up(desks, cells, keepers);

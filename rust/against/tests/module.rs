@@ -1,9 +1,7 @@
 //! The safe module, which no proof is about: desks that have nothing but each other's frames,
 //! and the typed table, do and tell what the twin's table does.
 
-mod common;
-
-use common::Same;
+use against::{Same, Tally};
 use cwmorlais::{sys, Brought, Desk, Done, Frame, Read, Received, Refusal, Served, Told, Write};
 use twin::data::{kind, slot};
 use twin::gen::{self, good_setup, Mood, Rng};
@@ -128,7 +126,7 @@ fn desks_and_their_frames_do_what_the_table_does() {
 /// Whatever bytes arrive, a desk is as it was unless it accepts them.
 #[test]
 fn desks_that_get_any_bytes() {
-    let mut tally = common::Tally::new();
+    let mut tally = Tally::default();
     for seed in 0..100_000 {
         let mut rng = Rng::new(seed);
         let (desks, cells, keepers) = good_setup(&mut rng, 2);
@@ -170,7 +168,7 @@ fn desks_that_get_any_bytes() {
 
 #[test]
 fn the_typed_table_says_what_the_twins_table_says() {
-    let mut tally = common::Tally::new();
+    let mut tally = Tally::default();
     for seed in 0..8_000 {
         let mut rng = Rng::new(seed);
         let (desks, cells, keepers) = good_setup(&mut rng, 1);
