@@ -181,6 +181,53 @@ impl Mood {
     }
 }
 
+/// A run on this tray as a script of exactly so many bytes, which are enough for the first lines.
+pub fn script(
+    rng: &mut Rng,
+    desks: u32,
+    cells: u32,
+    keepers: &[u32; CELLS],
+    bytes: usize,
+) -> String {
+    let mut table = Table::new(desks, cells, keepers).expect("a good set-up");
+    let mood = Mood::new(rng);
+    let kept: Vec<String> = keepers[..cells as usize]
+        .iter()
+        .map(u32::to_string)
+        .collect();
+    let mut script = format!("{desks} {cells}\n{}\n", kept.join(" "));
+    while script.len() < bytes {
+        let event = mood.event_at(rng, &table);
+        let Event {
+            kind,
+            desk,
+            cell,
+            word,
+        } = event;
+        let line = format!("{kind} {desk} {cell} {word}\n");
+        // What is left must be nothing, or have room for a line.
+        let left = bytes - script.len();
+        if line.len() + SHORTEST_LINE <= left {
+            table.event(&event);
+            script += &line;
+        } else {
+            // Reads, whose word is ignored, of any length from 8 to 17.
+            let length = if left <= LONGEST_READ {
+                left
+            } else {
+                (left - SHORTEST_LINE).min(LONGEST_READ)
+            };
+            script += &format!("1 0 0 {}\n", "1".repeat(length - SHORTEST_LINE + 1));
+        }
+    }
+    script
+}
+
+/// `1 0 0 0` and its LF.
+const SHORTEST_LINE: usize = 8;
+/// `1 0 0 1111111111` and its LF.
+const LONGEST_READ: usize = 17;
+
 /// A sound table, often one that no run reaches.
 pub fn table(rng: &mut Rng) -> Table {
     let (desks, cells, keepers) = good_setup(rng, 1);
