@@ -100,3 +100,8 @@ pub const fn keepers<const N: usize>(first: [u32; N]) -> [u32; CELLS] {
     }
     keepers
 }
+
+/// The example of `rust/README.md` compiles.
+#[cfg(doctest)]
+#[doc = include_str!("../../README.md")]
+struct Readme;
