@@ -21,7 +21,7 @@ impl Frame {
     pub(crate) fn of(message: Message, to: u8) -> Frame {
         let mut bytes = [0; LONGEST];
         let written = sys::frame_write(message, &mut bytes);
-        debug_assert_eq!(
+        assert_eq!(
             written.code, 0,
             "a desk's own message has a frame: {message:?}"
         );

@@ -52,6 +52,8 @@ fn explain() {
 struct Pair {
     ours: f64,
     twins: f64,
+    /// What the calls were on.
+    state: &'static str,
 }
 
 fn heading(what: &str, unit: &str) {
@@ -64,7 +66,8 @@ fn line(what: &str, ours: &str, twins: &str, ratio: &str, state: &str) {
     println!("{what:<46} {ours:>9} {twins:>9} {ratio:>12}  {state}");
 }
 
-fn report(what: &str, state: &str, Pair { ours, twins }: Pair) {
+fn report(what: &str, pair: Pair) {
+    let Pair { ours, twins, state } = pair;
     let [our_time, twins_time] = [ours, twins].map(|time| format!("{time:.1}"));
     let ratio = format!("{:.2}", ours / twins);
     line(what, &our_time, &twins_time, &ratio, state);
@@ -84,7 +87,7 @@ fn rounds(
     calls: usize,
     mut ours: impl FnMut() -> Duration,
     mut twins: impl FnMut() -> Duration,
-) -> Pair {
+) -> (f64, f64) {
     let (mut our_times, mut twins_times, mut empty) = (Vec::new(), Vec::new(), Vec::new());
     let start = Instant::now();
     while start.elapsed() < ENOUGH || our_times.len() < 101 {
@@ -100,10 +103,7 @@ fn rounds(
     }
     let empty = median(&mut empty);
     let per_call = |times: &mut [f64]| (median(times) - empty) / calls as f64;
-    Pair {
-        ours: per_call(&mut our_times),
-        twins: per_call(&mut twins_times),
-    }
+    (per_call(&mut our_times), per_call(&mut twins_times))
 }
 
 fn timed(batch: impl FnOnce()) -> Duration {
@@ -119,10 +119,30 @@ enum State {
     Reused,
     /// Each on a copy of its own.
     Copies,
+    /// None: the call makes it.
+    New,
+}
+
+impl State {
+    fn name(self) -> &'static str {
+        match self {
+            State::Reused => "reused",
+            State::Copies => "copies",
+            State::New => "new",
+        }
+    }
+
+    /// How many are made ready, and how many calls there are on each.
+    fn batch(self, size: usize) -> (usize, usize) {
+        match self {
+            State::Reused | State::New => (1, CALLS),
+            State::Copies => (COPIES / size, 1),
+        }
+    }
 }
 
 /// Calls of a batch on one state.
-const REUSED: usize = 100;
+const CALLS: usize = 100;
 /// So many bytes of copies stay in the first cache, with room for all else.
 const COPIES: usize = 36 << 10;
 
@@ -133,35 +153,30 @@ fn pair<O: Copy, T: Copy>(
     our_call: impl Fn(&mut O),
     twins_call: impl Fn(&mut T),
 ) -> Pair {
-    let calls = match state {
-        State::Reused => REUSED,
-        State::Copies => COPIES / size_of::<T>(),
-    };
-    rounds(
-        calls,
-        side(state, calls, ours, our_call),
-        side(state, calls, twins, twins_call),
-    )
+    let batch = state.batch(size_of::<T>());
+    let (ours, twins) = rounds(
+        batch.0 * batch.1,
+        side(batch, ours, our_call),
+        side(batch, twins, twins_call),
+    );
+    let state = state.name();
+    Pair { ours, twins, state }
 }
 
 /// One side's round: prepares, and times a batch.
 fn side<S: Copy>(
-    state: State,
-    calls: usize,
+    (count, calls): (usize, usize),
     given: S,
     call: impl Fn(&mut S),
 ) -> impl FnMut() -> Duration {
-    let count = match state {
-        State::Reused => 1,
-        State::Copies => calls,
-    };
     let mut copies = vec![given; count];
     move || {
         copies.fill(given);
-        match state {
-            State::Reused => timed(|| (0..calls).for_each(|_| call(black_box(&mut copies[0])))),
-            State::Copies => timed(|| copies.iter_mut().for_each(|copy| call(black_box(copy)))),
-        }
+        timed(|| {
+            for copy in &mut copies {
+                (0..calls).for_each(|_| call(black_box(copy)));
+            }
+        })
     }
 }
 
@@ -239,15 +254,14 @@ fn table_event(state: State, table: Table, event: Event) -> (u32, Pair) {
 }
 
 fn tables(desks: u32, cells: u32) {
-    let say =
-        |what: &str, state, pair| report(&format!("table {desks} x {cells}: {what}"), state, pair);
+    let say = |what: &str, pair| report(&format!("table {desks} x {cells}: {what}"), pair);
     let table = full(desks, cells);
     for (name, event) in [
         ("read of an own copy", event(kind::READ, 0, 1)),
         ("keeper's write", event(kind::WRITE, 0, 0)),
         ("refusal 8", event(9, 0, 0)),
     ] {
-        say(name, "reused", table_event(State::Reused, table, event).1);
+        say(name, table_event(State::Reused, table, event).1);
     }
     for (name, kind, under_way) in [
         ("take", kind::TAKE, slot::WRITE_ASKED),
@@ -256,11 +270,11 @@ fn tables(desks: u32, cells: u32) {
         let table = full_with(desks, cells, under_way);
         let (count, pair) = table_event(State::Copies, table, event(kind, 1, 0));
         assert_eq!(count, dropped(desks, cells, kind == kind::TAKE));
-        say(&format!("{name}, drops {count} copies"), "copies", pair);
+        say(&format!("{name}, drops {count} copies"), pair);
     }
     let keepers = table.tray.keepers.map(u32::from);
     let pair = pair(
-        State::Reused,
+        State::New,
         (keepers, keepers),
         |keepers| {
             black_box(sys::table_set_up(desks, cells, keepers));
@@ -269,7 +283,7 @@ fn tables(desks: u32, cells: u32) {
             let _ = black_box(Table::new(desks, cells, keepers));
         },
     );
-    say("set up", "new", pair);
+    say("set up", pair);
 }
 
 /// A part's call by both, which must leave the same record.
@@ -287,8 +301,7 @@ fn record_call(
 }
 
 fn records(desks: u32, cells: u32) {
-    let say =
-        |what: &str, state, pair| report(&format!("record {desks} x {cells}: {what}"), state, pair);
+    let say = |what: &str, pair| report(&format!("record {desks} x {cells}: {what}"), pair);
     let keeper = full(desks, cells).record(0);
     for (name, event) in [
         ("read of an own copy", event(kind::READ, 0, 1)),
@@ -306,7 +319,7 @@ fn records(desks: u32, cells: u32) {
                 black_box(record.event(black_box(&event)));
             },
         );
-        say(name, "reused", pair);
+        say(name, pair);
     }
     let read = Message {
         kind: slot::READ_ASKED,
@@ -333,14 +346,10 @@ fn records(desks: u32, cells: u32) {
             },
         )
     };
-    say("serve a read", "reused", serve(State::Reused, read));
+    say("serve a read", serve(State::Reused, read));
     let drops = dropped(desks, cells, true);
     let pair = serve(State::Copies, write);
-    say(
-        &format!("serve a write, drops {drops} copies"),
-        "copies",
-        pair,
-    );
+    say(&format!("serve a write, drops {drops} copies"), pair);
     let mut asker = full(desks, cells).record(1);
     asker.slot.kind = slot::READ_ASKED;
     let answer = Message {
@@ -359,10 +368,10 @@ fn records(desks: u32, cells: u32) {
         },
     );
     let drops = dropped(desks, cells, false);
-    say(&format!("bring, drops {drops} copies"), "copies", pair);
+    say(&format!("bring, drops {drops} copies"), pair);
     let keepers = keeper.tray.keepers.map(u32::from);
     let pair = self::pair(
-        State::Reused,
+        State::New,
         (keepers, keepers),
         |keepers| {
             black_box(sys::desk_start(desks, cells, keepers, 0));
@@ -371,7 +380,7 @@ fn records(desks: u32, cells: u32) {
             let _ = black_box(Record::new(desks, cells, keepers, 0));
         },
     );
-    say("start", "new", pair);
+    say("start", pair);
 }
 
 fn frames() {
@@ -411,16 +420,8 @@ fn frames() {
                 let _ = black_box(frame::read(&bytes[..used]));
             },
         );
-        report(
-            &format!("frame: write a {name}, {used} bytes"),
-            "reused",
-            written,
-        );
-        report(
-            &format!("frame: read a {name}, {used} bytes"),
-            "reused",
-            read,
-        );
+        report(&format!("frame: write a {name}, {used} bytes"), written);
+        report(&format!("frame: read a {name}, {used} bytes"), read);
     }
 }
 
@@ -455,13 +456,12 @@ fn scripts(ours: &Path, twins: &Path) {
         let rest = Pair {
             ours: (whole.ours - start.ours) / events as f64,
             twins: (whole.twins - start.twins) / events as f64,
+            state: "",
         };
-        let say = |what: &str, state, pair| {
-            report(&format!("script {desks} x {cells}: {what}"), state, pair);
-        };
-        say(&format!("65,536 bytes, {events} events"), "process", whole);
-        say("no event", "process", start);
-        say("the difference, for an event", "", rest);
+        let say = |what: &str, pair| report(&format!("script {desks} x {cells}: {what}"), pair);
+        say(&format!("65,536 bytes, {events} events"), whole);
+        say("no event", start);
+        say("the difference, for an event", rest);
     }
 }
 
@@ -496,6 +496,7 @@ fn script_times(ours: &Path, twins: &Path, script: &str) -> Pair {
     Pair {
         ours: median(&mut our_times),
         twins: median(&mut twins_times),
+        state: "process",
     }
 }
 
@@ -540,7 +541,7 @@ fn plot(what: &str, sizes: impl IntoIterator<Item = u32>, measure: impl Fn(u32) 
         .collect();
     let highest = points.iter().map(|(_, pair)| pair.ours.max(pair.twins));
     let highest = highest.fold(1.0, f64::max);
-    for (size, Pair { ours, twins }) in points {
+    for (size, Pair { ours, twins, .. }) in points {
         let place = |time: f64| (time / highest * WIDTH).round() as usize;
         let mut bar = vec![b' '; WIDTH as usize + 1];
         bar[..place(ours)].fill(b'#');
