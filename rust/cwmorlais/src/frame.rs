@@ -5,13 +5,14 @@ use std::fmt::{self, Debug, Formatter};
 use crate::sys::{self, Message};
 use crate::{Refusal, DESKS};
 
-/// The longest frame: two bytes of length, five of head, a word and eight numbers.
-const LONGEST: usize = 2 + 5 + 4 + 4 * DESKS;
+/// The bytes of the longest frame: its length, version, kind, desk count, asking desk and cell, a
+/// word and eight numbers.
+pub const FRAME_BYTES: usize = 2 + 5 + 4 + 4 * DESKS;
 
 /// A message of a desk as the bytes to send, and the desk to send them to.
 #[derive(Clone, Copy)]
 pub struct Frame {
-    bytes: [u8; LONGEST],
+    bytes: [u8; FRAME_BYTES],
     used: usize,
     to: u8,
 }
@@ -19,7 +20,7 @@ pub struct Frame {
 impl Frame {
     /// The frame of a message that a sound record gave: it has one, and 43 bytes are room enough.
     pub(crate) fn of(message: Message, to: u8) -> Frame {
-        let mut bytes = [0; LONGEST];
+        let mut bytes = [0; FRAME_BYTES];
         let written = sys::frame_write(message, &mut bytes);
         assert_eq!(
             written.code, 0,
@@ -85,7 +86,7 @@ pub fn read_frame(bytes: &[u8]) -> Result<(Message, usize), Refusal> {
 }
 
 /// Writes a message's frame at the front of `out` and nothing past it, and tells how many bytes it
-/// used; or 32 to 35, 38, 37, and `out` is as it was.
+/// used; or 32 to 35, 38, 37, and `out` is as it was. [`FRAME_BYTES`] are always room enough.
 pub fn write_frame(message: &Message, out: &mut [u8]) -> Result<usize, Refusal> {
     let written = sys::frame_write(*message, out);
     match written.code {

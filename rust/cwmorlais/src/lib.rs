@@ -74,7 +74,7 @@ pub mod sys;
 mod table;
 
 pub use desk::{Brought, Desk, Read, Received, Served, Told, Write};
-pub use frame::{read_frame, write_frame, Frame};
+pub use frame::{read_frame, write_frame, Frame, FRAME_BYTES};
 pub use refusal::Refusal;
 pub use sys::{Clock, Message};
 pub use table::{Done, Event, Table};
