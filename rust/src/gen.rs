@@ -650,6 +650,18 @@ pub fn any_message(rng: &mut Rng) -> Message {
     message
 }
 
+/// A record, one in six of them broken, with an event and a message for it.
+pub fn given(seed: u64) -> (Record, Event, Message) {
+    let mut rng = Rng::new(seed);
+    let mut record = record(&mut rng);
+    if rng.one_in(6) {
+        break_record(&mut rng, &mut record);
+    }
+    let event = wild_event(&mut rng, &record.tray);
+    let message = message_for(&mut rng, &record);
+    (record, event, message)
+}
+
 /// A message that fits this record, sound or not, or nearly: one in four has a field changed.
 pub fn message_for(rng: &mut Rng, record: &Record) -> Message {
     let tray = &record.tray;

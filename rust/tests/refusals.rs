@@ -237,13 +237,7 @@ fn every_event_is_refused_by_the_first_line_that_applies() {
 fn every_desks_part_refuses_by_the_first_line_that_applies() {
     let (mut events, mut serves, mut brings) = (Tally::new(), Tally::new(), Tally::new());
     for seed in 0..150_000 {
-        let mut rng = Rng::new(seed);
-        let mut given = gen::record(&mut rng);
-        if rng.one_in(6) {
-            gen::break_record(&mut rng, &mut given);
-        }
-        let event = gen::wild_event(&mut rng, &given.tray);
-        let message = gen::message_for(&mut rng, &given);
+        let (given, event, message) = gen::given(seed);
         // What is refused, and the code that comes with a message.
         let hold = |tally: &mut Tally, number, sends, step: &dyn Fn(&mut Record) -> _| {
             let mut record = given;

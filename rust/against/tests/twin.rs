@@ -160,13 +160,7 @@ fn scrambled_tables() {
 fn records_sound_or_broken() {
     let mut tallies = three();
     for seed in 0..400_000 {
-        let mut rng = Rng::new(seed);
-        let mut given = gen::record(&mut rng);
-        if rng.one_in(6) {
-            gen::break_record(&mut rng, &mut given);
-        }
-        let event = gen::wild_event(&mut rng, &given.tray);
-        let message = gen::message_for(&mut rng, &given);
+        let (given, event, message) = gen::given(seed);
         parts(&mut tallies, &given, &event, &message, seed);
     }
     expect_parts("records", &tallies, 1_000);
