@@ -1,16 +1,7 @@
-// One desk: its record, and what it does with an event, a request and an answer. The table only carries messages between desks.
-ghost use mathlib.Core.Path.{_≡_};
-ghost use Prim.Native.Nat.{_<_};
-ghost use Rattle.clock.specs.Clock.{number};
-ghost use Rattle.desk.specs.Desk.{noMessage};
-ghost use Rattle.desk.specs.Rules.{eventDone, eventRule, serveDone, serveRule, bringDone, bringRule, replied as replied·def};
+// One desk: its record, what passes between desks, and whether a record is sound. What a desk does stands in the crates above.
 use clock::Clock;
 
-mod asking;
-mod losing;
-mod serving;
 pub mod sound;
-pub mod starting;
 
 // What a desk has of one cell. A cell that is not held has word 0 and the zero stamp.
 #[repr(C)]
@@ -18,6 +9,15 @@ pub struct Cell {
     pub held: bool,
     pub word: u32,
     pub stamp: Clock,
+}
+
+impl Cell {
+    // A cell that is not held.
+    pub const NONE: Cell = Cell {
+        held: false,
+        word: 0,
+        stamp: Clock::ZERO,
+    };
 }
 
 // What a desk waits for: kind 0 nothing, 1 read asked, 2 write asked (word, sent clock), 3 read answered, 4 write answered (word, stamp).
@@ -29,12 +29,31 @@ pub struct Slot {
     pub clock: Clock,
 }
 
+impl Slot {
+    // An empty slot.
+    pub const NONE: Slot = Slot {
+        kind: 0,
+        cell: 0,
+        word: 0,
+        clock: Clock::ZERO,
+    };
+}
+
 // The tray as it was set up: how many desks and cells, and each cell's keeper.
 #[repr(C)]
 pub struct Tray {
     pub desks: u8,
     pub cells: u8,
     pub keepers: [u8; 32],
+}
+
+impl Tray {
+    // What a refusal to set up gives: all zero.
+    pub const NONE: Tray = Tray {
+        desks: 0,
+        cells: 0,
+        keepers: [0; 32],
+    };
 }
 
 // A desk's record, which its program lends it: its row of the table, with the tray and the desk's number.
@@ -46,6 +65,18 @@ pub struct Record {
     pub row: [Cell; 32],
     pub slot: Slot,
     pub served: bool,
+}
+
+impl Record {
+    // What a refusal to start gives: all zero.
+    pub const NONE: Record = Record {
+        tray: Tray::NONE,
+        desk: 0,
+        clock: Clock::ZERO,
+        row: [Cell::NONE; 32],
+        slot: Slot::NONE,
+        served: false,
+    };
 }
 
 // What somebody wants of a desk: kind 1 read, 2 write, 3 take, 4 bring, 5 drop. Any number may stand anywhere.
@@ -75,6 +106,18 @@ pub struct Message {
     pub clock: Clock,
 }
 
+impl Message {
+    // No message: all zero.
+    pub const NONE: Message = Message {
+        kind: 0,
+        desks: 0,
+        desk: 0,
+        cell: 0,
+        word: 0,
+        clock: Clock::ZERO,
+    };
+}
+
 // What a step gives: the reply, the message to send (all zero where there is none), and the record afterwards.
 pub struct Step {
     pub reply: Reply,
@@ -87,114 +130,4 @@ pub struct Step {
 pub struct Start {
     pub code: u32,
     pub record: Record,
-}
-
-impl Record {
-    // Kinds 1 Read, 2 Write and 5 Drop for this desk, whatever desk the event names.
-    pub fn event(self, e: Event) -> Step
-        ensures { λ r. ⌜ r ≡ eventRule self e ⌝ }
-    {
-        let refusal = asking::refusal(self, e);
-        if refusal != 0 {
-            return refused(self, refusal);
-        }
-        event_done(self, e)
-    }
-
-    // A request of another desk for a cell that this desk keeps.
-    pub fn serve(self, m: Message) -> Step
-        ensures { λ r. ⌜ r ≡ serveRule self m ⌝ }
-    {
-        let refusal = serving::serve_refusal(self, m);
-        if refusal != 0 {
-            return refused(self, refusal);
-        }
-        serve_done(self, m)
-    }
-
-    // The answer to what this desk asked.
-    pub fn bring(self, m: Message) -> Step
-        ensures { λ r. ⌜ r ≡ bringRule self m ⌝ }
-    {
-        let refusal = serving::bring_refusal(self, m);
-        if refusal != 0 {
-            return refused(self, refusal);
-        }
-        bring_done(self, m)
-    }
-}
-
-// What the three do once nothing refuses. The table, which has looked at all of that itself, calls these.
-
-pub fn event_done(v: Record, e: Event) -> Step
-    requires { ⌜ (e .cell < 32) × (v .desk < 8) × (e .kind ≡ 2 → number (v .clock) (v .desk) < 4294967295) ⌝ }
-    ensures { λ r. ⌜ r ≡ eventDone v e ⌝ }
-{
-    let kind = e.kind;
-    let c = e.cell as usize;
-    if kind == 1 {
-        return asking::read(v, c);
-    }
-    if kind == 2 {
-        return asking::write(v, c, e.word);
-    }
-    asking::give_up(v, c)
-}
-
-pub fn serve_done(v: Record, m: Message) -> Step
-    requires { ⌜ (m .cell < 32) × (m .kind < 3) ⌝ }
-    ensures { λ r. ⌜ r ≡ serveDone v m ⌝ }
-{
-    let kind = m.kind;
-    if kind == 1 {
-        return serving::answer_read(v, m);
-    }
-    serving::take_write(v, m)
-}
-
-pub fn bring_done(v: Record, m: Message) -> Step
-    requires { ⌜ m .cell < 32 ⌝ }
-    ensures { λ r. ⌜ r ≡ bringDone v m ⌝ }
-{
-    serving::bring_answer(v, m)
-}
-
-const NO_MESSAGE: Message = Message {
-    kind: 0,
-    desks: 0,
-    desk: 0,
-    cell: 0,
-    word: 0,
-    clock: Clock::ZERO,
-};
-
-const NO_CELL: Cell = Cell {
-    held: false,
-    word: 0,
-    stamp: Clock::ZERO,
-};
-
-const NO_SLOT: Slot = Slot {
-    kind: 0,
-    cell: 0,
-    word: 0,
-    clock: Clock::ZERO,
-};
-
-// A reply with no message.
-fn replied(code: u32, value: u32, count: u32, after: Record) -> Step
-    ensures { λ r. ⌜ r ≡ replied·def code value count noMessage after ⌝ }
-{
-    Step {
-        reply: Reply { code, value, count },
-        message: NO_MESSAGE,
-        after,
-    }
-}
-
-// A refusal gives its number and leaves the record as it was.
-fn refused(v: Record, code: u32) -> Step
-    ensures { λ r. ⌜ r ≡ replied·def code 0 0 noMessage v ⌝ }
-{
-    replied(code, 0, 0, v)
 }

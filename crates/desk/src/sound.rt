@@ -116,7 +116,7 @@ fn row_sound(v: Record) -> bool
 }
 
 // A desk's own record: a full slot stays asked until the answer is brought.
-pub(crate) fn sound(v: Record) -> bool
+pub fn sound(v: Record) -> bool
     ensures { λ r. ⌜ r ≡ isSound v ⌝ }
 {
     if !tray_sound(v.tray) {

@@ -29,15 +29,6 @@ pub struct Written {
     pub used: usize,
 }
 
-const NO_MESSAGE: Message = Message {
-    kind: 0,
-    desks: 0,
-    desk: 0,
-    cell: 0,
-    word: 0,
-    clock: Clock::ZERO,
-};
-
 // The message whose frame the bytes start with. What follows the frame is another's.
 pub fn read(s: &[u8]) -> Reading
     ensures { λ r. ⌜ r ≡ readRule (now (s .entry)) ⌝ }
@@ -46,7 +37,7 @@ pub fn read(s: &[u8]) -> Reading
     if code != 0 {
         return Reading {
             code,
-            message: NO_MESSAGE,
+            message: Message::NONE,
             used: 0,
         };
     }

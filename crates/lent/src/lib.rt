@@ -11,7 +11,6 @@ use desk::Message;
 use desk::Record;
 use desk::Reply;
 use desk::Start;
-use desk::starting;
 use frame::Reading;
 use frame::Written;
 use table::SetUp;
@@ -42,7 +41,7 @@ pub extern "C" fn cwmorlais_desk_start(
 pub extern "C" fn cwmorlais_desk_event(v: &mut Record, e: Event) -> Answer
     ensures { λ r. ⌜ (r ≡ answerOf (eventRule (now (v .entry)) e)) × (now (v .exit) ≡ eventRule (now (v .entry)) e .after) ⌝ }
 {
-    let step = Record::event(*v, e);
+    let step = asking::event(*v, e);
     *v = step.after;
     Answer {
         reply: step.reply,
@@ -55,7 +54,7 @@ pub extern "C" fn cwmorlais_desk_event(v: &mut Record, e: Event) -> Answer
 pub extern "C" fn cwmorlais_desk_serve(v: &mut Record, m: Message) -> Answer
     ensures { λ r. ⌜ (r ≡ answerOf (serveRule (now (v .entry)) m)) × (now (v .exit) ≡ serveRule (now (v .entry)) m .after) ⌝ }
 {
-    let step = Record::serve(*v, m);
+    let step = serving::serve(*v, m);
     *v = step.after;
     Answer {
         reply: step.reply,
@@ -68,7 +67,7 @@ pub extern "C" fn cwmorlais_desk_serve(v: &mut Record, m: Message) -> Answer
 pub extern "C" fn cwmorlais_desk_bring(v: &mut Record, m: Message) -> Answer
     ensures { λ r. ⌜ (r ≡ answerOf (bringRule (now (v .entry)) m)) × (now (v .exit) ≡ bringRule (now (v .entry)) m .after) ⌝ }
 {
-    let step = Record::bring(*v, m);
+    let step = bringing::bring(*v, m);
     *v = step.after;
     Answer {
         reply: step.reply,
@@ -98,7 +97,7 @@ pub extern "C" fn cwmorlais_frame_write(m: Message, out: &mut [u8]) -> Written
 pub extern "C" fn cwmorlais_table_set_up(desks: u32, cells: u32, keepers: &[u32; 32]) -> SetUp
     ensures { λ r. ⌜ r ≡ setUpRule desks cells (now (keepers .entry)) ⌝ }
 {
-    Table::set_up(desks, cells, *keepers)
+    setting::set_up(desks, cells, *keepers)
 }
 
 // One event on the lent table.
@@ -106,7 +105,7 @@ pub extern "C" fn cwmorlais_table_set_up(desks: u32, cells: u32, keepers: &[u32;
 pub extern "C" fn cwmorlais_table_event(t: &mut Table, e: Event) -> Reply
     ensures { λ r. ⌜ (r ≡ tableRule (now (t .entry)) e .reply) × (now (t .exit) ≡ tableRule (now (t .entry)) e .after) ⌝ }
 {
-    let outcome = Table::event(*t, e);
+    let outcome = moving::event(*t, e);
     *t = outcome.after;
     outcome.reply
 }

@@ -42,7 +42,7 @@ fn begin(desks: u32, cells: u32, s: &[u8], at: usize, out: &mut [u8]) -> usize
     if (0 < cells) & (cells <= 32) {
         return second(desks, cells, s, at, out);
     }
-    let made = Table::set_up(desks, cells, [0; 32]);
+    let made = setting::set_up(desks, cells, [0; 32]);
     put_single(made.code, out, 0)
 }
 
@@ -59,7 +59,7 @@ fn second(desks: u32, cells: u32, s: &[u8], at: usize, out: &mut [u8]) -> usize
         return put_bad_line(2, out, 0);
     }
     let keepers = two.n;
-    let made = Table::set_up(desks, cells, keepers);
+    let made = setting::set_up(desks, cells, keepers);
     let code = made.code;
     if code != 0 {
         return put_single(code, out, 0);
@@ -93,7 +93,7 @@ fn run(t: Table, s: &[u8], start: usize, out: &mut [u8]) -> usize
             cell,
             word,
         };
-        let done = table.event(e);
+        let done = moving::event(table, e);
         table = done.after;
         let reply = done.reply;
         o = put_line(reply, out, o);

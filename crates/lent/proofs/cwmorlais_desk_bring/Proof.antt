@@ -6,8 +6,8 @@ use contract.Monad.{factI}
 use Rattle.desk.specs.Rules.{bringRule}
 use Rattle.desk.proofs.Message as X
 use Rattle.desk.proofs.Message.Laws as X′
-use Rattle.desk.proofs.Record.bring.Met as met
-use Rattle.desk.proofs.Record.bring.Symbol as step
+use Rattle.bringing.proofs.bring.Met as met
+use Rattle.bringing.proofs.bring.Symbol as step
 use Rattle.lent.proofs.Lendings.{record-lent}
 use Rattle.lent.proofs.Walk.{lent-spec}
 use Rattle.lent.proofs.cwmorlais_desk_bring as f
@@ -20,4 +20,4 @@ unfolding code.routine
 cwmorlais-desk-bring-spec 𝓤 H 𝓜 𝓖 𝓡 =
     lent-spec record-lent X.the-type X′.the-laws X′.the-plain bringRule 𝓤 H 𝓜 𝓖 𝓡 code.env
     (f.clauses 𝓤 H (𝓖 .A) (𝓜 .mem) (𝓡 .run)) (λ κs a g. factI 𝓤 _ (emp 𝓤) (refl, refl))
-    lent.name step.name (code.unfolded 𝓤 H 𝓜 𝓡) step.routine code.calls-desk·Record·bring (met.met 𝓤 H 𝓜 𝓖 𝓡)
+    lent.name step.name (code.unfolded 𝓤 H 𝓜 𝓡) step.routine code.calls-bringing·bring (met.met 𝓤 H 𝓜 𝓖 𝓡)

@@ -6,8 +6,8 @@ use contract.Monad.{factI}
 use Rattle.desk.specs.Rules.{eventRule}
 use Rattle.desk.proofs.Event as X
 use Rattle.desk.proofs.Event.Laws as X′
-use Rattle.desk.proofs.Record.event.Met as met
-use Rattle.desk.proofs.Record.event.Symbol as step
+use Rattle.asking.proofs.event.Met as met
+use Rattle.asking.proofs.event.Symbol as step
 use Rattle.lent.proofs.Lendings.{record-lent}
 use Rattle.lent.proofs.Walk.{lent-spec}
 use Rattle.lent.proofs.cwmorlais_desk_event as f
@@ -20,4 +20,4 @@ unfolding code.routine
 cwmorlais-desk-event-spec 𝓤 H 𝓜 𝓖 𝓡 =
     lent-spec record-lent X.the-type X′.the-laws X′.the-plain eventRule 𝓤 H 𝓜 𝓖 𝓡 code.env
     (f.clauses 𝓤 H (𝓖 .A) (𝓜 .mem) (𝓡 .run)) (λ κs a g. factI 𝓤 _ (emp 𝓤) (refl, refl))
-    lent.name step.name (code.unfolded 𝓤 H 𝓜 𝓡) step.routine code.calls-desk·Record·event (met.met 𝓤 H 𝓜 𝓖 𝓡)
+    lent.name step.name (code.unfolded 𝓤 H 𝓜 𝓡) step.routine code.calls-asking·event (met.met 𝓤 H 𝓜 𝓖 𝓡)

@@ -6,8 +6,8 @@ use contract.Monad.{factI}
 use Rattle.desk.specs.Rules.{serveRule}
 use Rattle.desk.proofs.Message as X
 use Rattle.desk.proofs.Message.Laws as X′
-use Rattle.desk.proofs.Record.serve.Met as met
-use Rattle.desk.proofs.Record.serve.Symbol as step
+use Rattle.serving.proofs.serve.Met as met
+use Rattle.serving.proofs.serve.Symbol as step
 use Rattle.lent.proofs.Lendings.{record-lent}
 use Rattle.lent.proofs.Walk.{lent-spec}
 use Rattle.lent.proofs.cwmorlais_desk_serve as f
@@ -20,4 +20,4 @@ unfolding code.routine
 cwmorlais-desk-serve-spec 𝓤 H 𝓜 𝓖 𝓡 =
     lent-spec record-lent X.the-type X′.the-laws X′.the-plain serveRule 𝓤 H 𝓜 𝓖 𝓡 code.env
     (f.clauses 𝓤 H (𝓖 .A) (𝓜 .mem) (𝓡 .run)) (λ κs a g. factI 𝓤 _ (emp 𝓤) (refl, refl))
-    lent.name step.name (code.unfolded 𝓤 H 𝓜 𝓡) step.routine code.calls-desk·Record·serve (met.met 𝓤 H 𝓜 𝓖 𝓡)
+    lent.name step.name (code.unfolded 𝓤 H 𝓜 𝓡) step.routine code.calls-serving·serve (met.met 𝓤 H 𝓜 𝓖 𝓡)

@@ -1,0 +1,89 @@
+-- `table::sound::cells_sound` meets its contract. The loop's invariant: the test over all cells is what the flag says so far, with what is left.
+-- Assumes nothing.
+use borrow.Author.Needs.{needs}
+use native.Mathlib.Omega.{arith}
+use mathlib.Core.Path.{_≡_, refl, sym}
+use mathlib.Core.Bool.{_&&_}
+use Prim.Native.Nat.{_-_, _≤_}
+use lib.ListN.{length, drop}
+use Rattle.desk.specs.Desk.{pastEnd}
+use Rattle.lists.specs.Each.{mapAt, length-mapped}
+use Rattle.lists.specs.Test.{every, mapAt-turn, mapAt-end}
+use Rattle.table.specs.Scan.{cellFit, cellsFit}
+use Rattle.table.proofs.sound.cells_sound.Statement.{statement}
+use Rattle.table.proofs.sound.cells_sound.Tie as tie
+
+abbrev Inv-loop : tie.InvT-loop
+Inv-loop t tray desks cells ok₀ i₀ ok i = (i ≤ 256)
+    × (every (mapAt (cellFit (t .tray)) (t .cells)) ≡ (ok && every (drop i (mapAt (cellFit (t .tray)) (t .cells)))))
+
+abbrev μ-loop : tie.MeasureT-loop
+μ-loop t tray desks cells ok₀ i₀ ok i = 256 - i
+
+cast-desks : tie.Need-cast-desks Inv-loop μ-loop
+cast-desks c = search needs
+
+cast-cells : tie.Need-cast-cells Inv-loop μ-loop
+cast-cells c = search needs
+
+loop-holds : tie.Need-loop-holds Inv-loop μ-loop
+loop-holds c = (search needs, refl)
+
+element-copy-out-kept : tie.Need-element-copy-out-kept Inv-loop μ-loop
+element-copy-out-kept c = omega arith
+
+cast-kept : tie.Need-cast-kept Inv-loop μ-loop
+cast-kept c = search needs
+
+mul-cell-sound : tie.Need-mul-cell-sound Inv-loop μ-loop
+mul-cell-sound c = search needs
+
+element-copy-out-cell-sound : tie.Need-element-copy-out-cell-sound Inv-loop μ-loop
+element-copy-out-cell-sound c = search needs
+
+cell-sound-requires : tie.Need-cell-sound-requires Inv-loop μ-loop
+cell-sound-requires c κs = search needs
+
+add-i : tie.Need-add-i Inv-loop μ-loop
+add-i c = search needs
+
+loop-less : tie.Need-loop-less Inv-loop μ-loop
+loop-less c = search needs
+
+loop-again : tie.Need-loop-again Inv-loop μ-loop
+unfolding cellFit
+loop-again c =
+    let at-loop = c .before .before .before .before in
+    let t = at-loop .before .before .args .t1 in
+    let long : length (t .cells) ≡ 256 = search (needs, length-mapped) in (
+      omega arith,
+      rw (c .cell-sound .ensures)
+          (mapAt-turn (cellFit (t .tray)) (t .cells) pastEnd (at-loop .loop .i) (at-loop .loop .ok) (omega arith) (at-loop .loop .inv .1)),
+    )
+
+returns : tie.Need-returns Inv-loop μ-loop
+unfolding cellsFit
+returns c =
+    let at-loop = c .before in
+    let t = at-loop .before .before .args .t1 in
+    let long : length (t .cells) ≡ 256 = search (needs, length-mapped) in
+    sym (mapAt-end (cellFit (t .tray)) (t .cells) pastEnd (at-loop .loop .i) (at-loop .loop .ok) (omega arith) (at-loop .loop .inv .1))
+
+pub cells-sound-spec : {M : Type 1} → statement M
+cells-sound-spec =
+    tie.close
+    (tie.spec
+    Inv-loop
+    μ-loop
+    cast-desks
+    cast-cells
+    loop-holds
+    element-copy-out-kept
+    cast-kept
+    mul-cell-sound
+    element-copy-out-cell-sound
+    cell-sound-requires
+    add-i
+    loop-less
+    loop-again
+    returns)
