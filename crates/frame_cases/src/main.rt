@@ -168,16 +168,16 @@ fn finish_write(case: Case) {
 
 fn read_first(s: &[u8], n: usize) -> Reading {
     if s.len() < n {
-        return frame::read(s);
+        return frame_read::read(s);
     }
-    frame::read(&s[0..n])
+    frame_read::read(&s[0..n])
 }
 
 fn write_first(m: Message, out: &mut [u8], room: usize) -> Written {
     if out.len() < room {
-        return frame::write(m, out);
+        return frame_write::write(m, out);
     }
-    frame::write(m, &mut out[0..room])
+    frame_write::write(m, &mut out[0..room])
 }
 
 fn put_first(s: &[u8], n: usize) {

@@ -80,7 +80,7 @@ pub extern "C" fn cwmorlais_desk_bring(v: &mut Record, m: Message) -> Answer
 pub extern "C" fn cwmorlais_frame_read(s: &[u8]) -> Reading
     ensures { λ r. ⌜ r ≡ readRule (now (s .entry)) ⌝ }
 {
-    frame::read(s)
+    frame_read::read(s)
 }
 
 // The frame of a message, at the start of the output.
@@ -89,7 +89,7 @@ pub extern "C" fn cwmorlais_frame_write(m: Message, out: &mut [u8]) -> Written
     ensures { λ r. ⌜ r ≡ writeRule m (now (out .entry)) ⌝ }
     ensures { λ r. ⌜ now (out .exit) ≡ outputRule m (now (out .entry)) ⌝ }
 {
-    frame::write(m, out)
+    frame_write::write(m, out)
 }
 
 // A fresh table. Keepers past the cell count are ignored.

@@ -1,11 +1,11 @@
 // What the script program answers, as a function from an input slice to an output slice.
 use desk::Event;
 use desk::Reply;
+use printing::put_bad_line;
+use printing::put_reply;
+use printing::put_single;
+use printing::put_too_long;
 use table::Table;
-use text::put_bad_line;
-use text::put_reply;
-use text::put_single;
-use text::put_too_long;
 use text::read_line;
 ghost use mathlib.Core.List.{_∷_, []};
 ghost use Prim.Native.Nat.{_+_, _≤_, _<_};

@@ -9,10 +9,10 @@ use lib.ListN.{length, drop, replicate}
 use Rattle.lists.specs.Test.{every}
 use Rattle.text.specs.Number.{given, largest, isDigit, valueFrom}
 use Rattle.text.specs.Line.{firstLine, lineNumbers}
-use Rattle.text.specs.declared.read.Number.{Number}
-use Rattle.text.specs.declared.read.Number.the-variants.{Is, No}
-use Rattle.text.specs.declared.read.Numbers.{Numbers}
-use Rattle.text.specs.declared.read.Line.{Line}
+use Rattle.text.specs.declared.Number.{Number}
+use Rattle.text.specs.declared.Number.the-variants.{Is, No}
+use Rattle.text.specs.declared.Numbers.{Numbers}
+use Rattle.text.specs.declared.Line.{Line}
 
 unfoldable pub asNumber : Option ℕ → Number
 asNumber none = No

@@ -13,7 +13,7 @@ use Rattle.text.specs.Number.{given, numberOf}
 use Rattle.text.specs.Line.{space, lf, before, withFirst, allNumbers, numbersOf, lineNumbers, firstLine}
 use Rattle.text.specs.Cut.{pieces-first}
 use Rattle.text.specs.Reading.{asNumber, asNumbers, noNumbers, followed, lineFound, lineAt}
-use Rattle.text.specs.declared.read.Number.the-variants.{Is, No}
+use Rattle.text.specs.declared.Number.the-variants.{Is, No}
 
 unfoldable pub behind : List ℕ → Option (List ℕ) → Option (List ℕ)
 behind front none = none

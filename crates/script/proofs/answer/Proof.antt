@@ -6,7 +6,7 @@ use mathlib.Core.Path.{sym, ap, _∙_}
 use Rattle.text.specs.Line.{tooLong}
 use Rattle.text.specs.OneLine.{length-bad-line}
 use Rattle.text.specs.Walk.{answer-long, answer-begun, first-bad, first-read}
-use Rattle.text.specs.declared.read.Line.{Line}
+use Rattle.text.specs.declared.Line.{Line}
 use Rattle.script.specs.Rules.{setUp, event}
 use Rattle.script.proofs.answer.Statement.{statement}
 use Rattle.script.proofs.answer.Tie as tie

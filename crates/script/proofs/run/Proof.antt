@@ -13,7 +13,7 @@ use Rattle.text.specs.Reading.{lineAt}
 use Rattle.text.specs.Script.{run}
 use Rattle.text.specs.Lines.{line-read}
 use Rattle.text.specs.OneLine.{length-bad-line}
-use Rattle.text.specs.declared.read.Line.{Line}
+use Rattle.text.specs.declared.Line.{Line}
 use Rattle.text.specs.Printing.{Put}
 use Rattle.text.specs.Walk.{Walked, walked-start, walked-length, walked-turn, walked-bad, walked-end}
 use Rattle.table.specs.declared.Table.{Table}

@@ -13,7 +13,7 @@ use Rattle.text.specs.Reading.{lineAt}
 use Rattle.text.specs.Script.{sized, started}
 use Rattle.text.specs.OneLine.{length-line, length-bad-line}
 use Rattle.text.specs.Walk.{second-bad, second-read, started-refused, started-run}
-use Rattle.text.specs.declared.read.Line.{Line}
+use Rattle.text.specs.declared.Line.{Line}
 use Rattle.table.specs.declared.Table.{Table}
 use Rattle.table.specs.declared.SetUp.{SetUp}
 use Rattle.table.specs.SetUp.{setUpRule}

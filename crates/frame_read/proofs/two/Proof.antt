@@ -1,0 +1,20 @@
+-- `frame_read::two` meets its contract: the number that two bytes are.
+-- Assumes nothing.
+use borrow.Author.Needs.{needs}
+use native.Mathlib.Omega.{arith}
+use Rattle.frame.specs.Bytes.{followed}
+use Rattle.frame_read.proofs.two.Statement.{statement}
+use Rattle.frame_read.proofs.two.Tie as tie
+
+mul-result : tie.Need-mul-result
+mul-result c = search needs
+
+add-result : tie.Need-add-result
+add-result c = search needs
+
+returns : tie.Need-returns
+unfolding followed
+returns c = omega arith
+
+pub two-spec : {M : Type 1} → statement M
+two-spec = tie.close (tie.spec mul-result add-result returns)

@@ -1,0 +1,108 @@
+// Writing a frame: a message as a row of bytes.
+ghost use mathlib.Core.Path.{_≡_};
+ghost use mathlib.Core.List.{_∷_, _++_};
+ghost use Prim.Native.Nat.{_+_, _*_, _≤_};
+ghost use lib.ListN.{length, take, drop};
+ghost use Rattle.lists.specs.Each.{mapAt};
+ghost use Rattle.lists.specs.Test.{every};
+ghost use Rattle.frame.specs.Bytes.{bytes, spell, put};
+ghost use Rattle.frame.specs.Frame.{widths, carriedOrZero, writeCode, writeRule, outputRule};
+ghost use Rattle.frame.specs.Laws.{headOf};
+use clock::Clock;
+use desk::Message;
+use frame::Written;
+use frame::carries;
+use frame::fault;
+
+// The frame of a message, at the start of the output. A refusal leaves every byte as it was.
+pub fn write(m: Message, out: &mut [u8]) -> Written
+    ensures { λ r. ⌜ r ≡ writeRule m (now (out .entry)) ⌝ }
+    ensures { λ r. ⌜ now (out .exit) ≡ outputRule m (now (out .entry)) ⌝ }
+{
+    let code = write_code(m, out.len());
+    if code != 0 {
+        return Written { code, used: 0 };
+    }
+    let c = carries(m.kind, m.desks);
+    let size = 5 + 4 * c;
+    put_head(out, size, m.kind, m.desks, m.desk, m.cell);
+    let clock = m.clock;
+    put_numbers(out, m.word, clock, c);
+    Written {
+        code: 0,
+        used: 2 + size,
+    }
+}
+
+fn write_code(m: Message, room: usize) -> u32
+    ensures { λ r. ⌜ r ≡ writeCode m room ⌝ }
+{
+    let code = fault(m.kind, m.desks, m.desk, m.cell);
+    if code != 0 {
+        return code;
+    }
+    let c = carries(m.kind, m.desks);
+    let clock = m.clock;
+    if !rest_is_zero(m.word, clock, c) {
+        return 38;
+    }
+    if room < 7 + 4 * c {
+        return 37;
+    }
+    0
+}
+
+// Whether the word and the clock's numbers are 0 from place c on: they are not sent, so nothing may be lost with them.
+fn rest_is_zero(word: u32, clock: Clock, c: usize) -> bool
+    ensures { λ r. ⌜ r ≡ every (mapAt (carriedOrZero c) (word ∷ clock .n)) ⌝ }
+{
+    let mut zero = (0 < c) | (word == 0);
+    for k in 0..8 {
+        zero = zero & ((k + 1 < c) | (clock.n[k] == 0));
+    }
+    zero
+}
+
+fn put_head(out: &mut [u8], size: usize, kind: u8, desks: u8, desk: u8, cell: u8)
+    requires { ⌜ 7 ≤ length (now out) ⌝ }
+    ensures { λ _. ⌜ now (out .exit) ≡ headOf size kind desks desk cell ++ drop 7 (now (out .entry)) ⌝ }
+{
+    out[0] = (size / 256 % 256) as u8;
+    out[1] = (size % 256) as u8;
+    out[2] = 1;
+    out[3] = kind;
+    out[4] = desks;
+    out[5] = desk;
+    out[6] = cell;
+}
+
+// The first c of the word and the clock's numbers, after the head.
+fn put_numbers(out: &mut [u8], word: u32, clock: Clock, c: usize)
+    requires { ⌜ (c ≤ 9) × (7 + 4 * c ≤ length (now out)) ⌝ }
+    ensures { λ _. ⌜ now (out .exit) ≡ put 7 (spell (take c (drop 6 widths)) (word ∷ clock .n)) (4 * c) (now (out .entry)) ⌝ }
+{
+    if c == 0 {
+        return;
+    }
+    put_number(out, 7, word);
+    put_clock(out, clock, c - 1);
+}
+
+fn put_clock(out: &mut [u8], clock: Clock, desks: usize)
+    requires { ⌜ (desks ≤ 8) × (11 + 4 * desks ≤ length (now out)) ⌝ }
+    ensures { λ _. ⌜ now (out .exit) ≡ put 11 (spell (take desks (drop 7 widths)) (clock .n)) (4 * desks) (now (out .entry)) ⌝ }
+{
+    for k in 0..desks {
+        put_number(out, 11 + 4 * k, clock.n[k]);
+    }
+}
+
+fn put_number(out: &mut [u8], at: usize, x: u32)
+    requires { ⌜ at + 4 ≤ length (now out) ⌝ }
+    ensures { λ _. ⌜ now (out .exit) ≡ put at (bytes 4 x) 4 (now (out .entry)) ⌝ }
+{
+    out[at] = (x / 256 / 256 / 256 % 256) as u8;
+    out[at + 1] = (x / 256 / 256 % 256) as u8;
+    out[at + 2] = (x / 256 % 256) as u8;
+    out[at + 3] = (x % 256) as u8;
+}
