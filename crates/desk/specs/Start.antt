@@ -38,8 +38,11 @@ setUpRefusal desks cells keepers =
 
 -- ---- a desk's record
 -- "each cell held by its keeper alone, with word 0 and zero stamp"
+abbrev pub heldIf : Bool → Cell
+heldIf kept = record { held = kept; word = 0; stamp = zeroClock }
+
 abbrev pub keptAlone : Tray → ℕ → ℕ → Cell
-keptAlone t desk c = record { held = keeps t desk c; word = 0; stamp = zeroClock }
+keptAlone t desk c = heldIf (keeps t desk c)
 
 -- "zero clocks, empty slots"
 unfoldable pub freshRecord : Tray → ℕ → Record

@@ -30,9 +30,12 @@ pub fn set_up(desks: u32, cells: u32, keepers: [u32; 32]) -> SetUp
 fn fresh(t: Tray) -> Table
     ensures { λ r. ⌜ r ≡ freshTable t ⌝ }
 {
+    let count = t.cells as usize;
     let mut cells = [Cell::NONE; 256];
     for i in 0..256 {
-        cells[i] = kept_alone(t, (i / 32) as u8, i % 32);
+        let c = i % 32;
+        let kept = (c < count) & (t.keepers[c] as usize == i / 32);
+        cells[i] = kept_alone(kept);
     }
     Table {
         tray: t,

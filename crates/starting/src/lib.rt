@@ -2,14 +2,13 @@
 ghost use mathlib.Core.Bool.{true, cond};
 ghost use mathlib.Core.Path.{_≡_};
 ghost use Prim.Native.Nat.{_<_, _≤_};
-ghost use Rattle.desk.specs.Start.{keptAlone, freshRecord, freshTray, keepersRight, setUpRefusal, startRefusal, startRule};
+ghost use Rattle.desk.specs.Start.{heldIf, freshRecord, freshTray, keepersRight, setUpRefusal, startRefusal, startRule};
 use clock::Clock;
 use desk::Cell;
 use desk::Record;
 use desk::Slot;
 use desk::Start;
 use desk::Tray;
-use desk::sound::keeps;
 
 // Any counts, 32 keepers and any number for the desk; keepers past the cell count are ignored.
 pub fn start(desks: u32, cells: u32, keepers: [u32; 32], desk: u32) -> Start
@@ -46,9 +45,11 @@ fn start_refusal(desks: u32, cells: u32, keepers: [u32; 32], desk: u32) -> u32
 fn fresh(t: Tray, desk: u8) -> Record
     ensures { λ r. ⌜ r ≡ freshRecord t desk ⌝ }
 {
+    let cells = t.cells as usize;
     let mut row = [Cell::NONE; 32];
     for c in 0..32 {
-        row[c] = kept_alone(t, desk, c);
+        let kept = (c < cells) & (t.keepers[c] == desk);
+        row[c] = kept_alone(kept);
     }
     Record {
         tray: t,
@@ -60,13 +61,12 @@ fn fresh(t: Tray, desk: u8) -> Record
     }
 }
 
-// What a desk has of a cell at first: held by its keeper alone.
-pub fn kept_alone(t: Tray, desk: u8, c: usize) -> Cell
-    requires { ⌜ c < 32 ⌝ }
-    ensures { λ r. ⌜ r ≡ keptAlone t desk c ⌝ }
+// What a desk has of a cell at first: its keeper alone holds it, blank.
+pub fn kept_alone(kept: bool) -> Cell
+    ensures { λ r. ⌜ r ≡ heldIf kept ⌝ }
 {
     Cell {
-        held: keeps(t, desk, c),
+        held: kept,
         word: 0,
         stamp: Clock::ZERO,
     }

@@ -8,26 +8,31 @@ use mathlib.Core.List.{List}
 use Prim.Native.Nat.{_-_, _≤_}
 use lib.ListN.{set, replicate}
 use Rattle.clock.specs.Clock.{zeroClock}
-use Rattle.desk.specs.Desk.{noSlot}
 use Rattle.lists.specs.Replaced.{upTo, upTo-step, upTo-mapAt}
 use Rattle.desk.specs.declared.Cell.{Cell}
-use Rattle.desk.specs.Desk.{noCell, pastEnd}
+use Rattle.desk.specs.Desk.{noCell, noSlot, pastEnd, keeps}
 use Rattle.table.specs.SetUp.{freshCell, freshTable}
 use Rattle.setting.proofs.fresh.Statement.{statement}
 use Rattle.setting.proofs.fresh.Tie as tie
 
 abbrev Inv-loop : tie.InvT-loop
-Inv-loop t cells₀ i₀ cells i = (i ≤ 256) × (cells ≡ upTo (freshCell t) i (replicate 256 noCell))
+Inv-loop t count cells₀ i₀ cells i = (i ≤ 256) × (cells ≡ upTo (freshCell t) i (replicate 256 noCell))
 
 abbrev μ-loop : tie.MeasureT-loop
-μ-loop t cells₀ i₀ cells i = 256 - i
+μ-loop t count cells₀ i₀ cells i = 256 - i
+
+cast-count : tie.Need-cast-count Inv-loop μ-loop
+cast-count c = search needs
 
 loop-holds : tie.Need-loop-holds Inv-loop μ-loop
 unfolding upTo
 loop-holds c = (search needs, refl)
 
-cast-kept-alone : tie.Need-cast-kept-alone Inv-loop μ-loop
-cast-kept-alone c = search needs
+element-copy-out-kept : tie.Need-element-copy-out-kept Inv-loop μ-loop
+element-copy-out-kept c = omega arith
+
+cast-kept : tie.Need-cast-kept Inv-loop μ-loop
+cast-kept c = search needs
 
 kept-alone-requires : tie.Need-kept-alone-requires Inv-loop μ-loop
 kept-alone-requires c κs = search needs
@@ -45,9 +50,10 @@ loop-less : tie.Need-loop-less Inv-loop μ-loop
 loop-less c = search needs
 
 loop-again : tie.Need-loop-again Inv-loop μ-loop
+unfolding keeps
 loop-again c =
-    let at-loop = c .before .before in
-    let t = at-loop .before .args .t in
+    let at-loop = c .before .before .before in
+    let t = at-loop .before .args .t1 in
     let k = at-loop .loop .i in (
       omega arith,
       ap₂ (λ (l : List Cell) (x : Cell). set l k x) (at-loop .loop .inv .1) (c .kept-alone .ensures)
@@ -58,7 +64,7 @@ returns : tie.Need-returns Inv-loop μ-loop
 unfolding freshTable
 returns c =
     let at-loop = c .before in
-    let t = at-loop .before .args .t in
+    let t = at-loop .before .args .t1 in
     let end : at-loop .loop .i ≡ 256 = omega arith in
     let all = upTo-mapAt (λ i _. freshCell t i) (at-loop .loop .i) (replicate 256 noCell) pastEnd (sym end) in
     let cells = at-loop .loop .inv .1 ∙ all in
@@ -70,8 +76,10 @@ fresh-spec =
     (tie.spec
     Inv-loop
     μ-loop
+    cast-count
     loop-holds
-    cast-kept-alone
+    element-copy-out-kept
+    cast-kept
     kept-alone-requires
     mul-cells
     array-set-from-cells
