@@ -2,7 +2,6 @@
 ghost use mathlib.Core.Path.{_≡_};
 ghost use Prim.Native.Nat.{_<_};
 ghost use Rattle.desk.specs.Rules.{fitsBring, brought, bringRefusal, bringDone, bringRule};
-use clock::Clock;
 use desk::Cell;
 use desk::Message;
 use desk::Record;

@@ -7,7 +7,6 @@ use crate::Cell;
 use crate::Record;
 use crate::Slot;
 use crate::Tray;
-use clock::Clock;
 
 pub fn waits(s: Slot) -> bool
     ensures { λ r. ⌜ r ≡ waits·def s ⌝ }
