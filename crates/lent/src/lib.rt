@@ -1,4 +1,4 @@
-// The library for Rust and C. What is lent (a desk's record, a table) is loaded, goes through a step by value, and is stored.
+// The library for Rust and C. A lent record is loaded, goes through a step by value, and is stored; a lent table is worked on where it lies.
 ghost use mathlib.Core.Path.{_≡_};
 ghost use Rattle.desk.specs.Rules.{eventRule, serveRule, bringRule};
 ghost use Rattle.desk.specs.Start.{startRule};
@@ -13,6 +13,8 @@ use desk::Reply;
 use desk::Start;
 use frame::Reading;
 use frame::Written;
+use refusing::refusal;
+use refusing::refused;
 use table::SetUp;
 use table::Table;
 
@@ -105,7 +107,10 @@ pub extern "C" fn cwmorlais_table_set_up(desks: u32, cells: u32, keepers: &[u32;
 pub extern "C" fn cwmorlais_table_event(t: &mut Table, e: Event) -> Reply
     ensures { λ r. ⌜ (r ≡ tableRule (now (t .entry)) e .reply) × (now (t .exit) ≡ tableRule (now (t .entry)) e .after) ⌝ }
 {
-    let outcome = moving::event(*t, e);
-    *t = outcome.after;
-    outcome.reply
+    let ok = held::sound(t);
+    let code = refusal(ok, t.tray, t.clocks, t.slots, e);
+    if code != 0 {
+        return refused(code);
+    }
+    held::moved(t, e)
 }

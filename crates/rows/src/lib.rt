@@ -1,43 +1,38 @@
-// A desk's record taken out of the table, and put back.
+// A row of the table taken out by value, and what an event makes of it put in.
 ghost use mathlib.Core.Path.{_≡_};
-ghost use Prim.Native.Nat.{_<_};
-ghost use Rattle.table.specs.Table.{recordOf, putBack};
+ghost use Prim.Native.Nat.{_+_, _≤_};
+ghost use lib.Seq.{slice};
+ghost use Rattle.table.specs.Parts.{putAt};
 use desk::Cell;
-use desk::Record;
+use table::Done;
 use table::Table;
 
-pub fn record_of(t: Table, desk: u8) -> Record
-    requires { ⌜ desk < 8 ⌝ }
-    ensures { λ r. ⌜ r ≡ recordOf t desk ⌝ }
+// The 32 entries from `base` on.
+pub fn row_at(t: Table, base: usize) -> [Cell; 32]
+    requires { ⌜ base + 32 ≤ 256 ⌝ }
+    ensures { λ r. ⌜ r ≡ slice base (base + 32) (t .cells) ⌝ }
 {
-    let d = desk as usize;
-    let base = d * 32;
     let mut row = [Cell::NONE; 32];
     for c in 0..32 {
         row[c] = t.cells[base + c];
     }
-    Record {
-        tray: t.tray,
-        desk,
-        clock: t.clocks[d],
-        row,
-        slot: t.slots[d],
-        served: t.served[d],
-    }
+    row
 }
 
-pub fn put_back(t: Table, v: Record) -> Table
-    requires { ⌜ v .desk < 8 ⌝ }
-    ensures { λ r. ⌜ r ≡ putBack t v ⌝ }
+// The row at `base`, and the other parts as they are now.
+pub fn put_at(t: Table, base: usize, d: Done) -> Table
+    requires { ⌜ base + 32 ≤ 256 ⌝ }
+    ensures { λ r. ⌜ r ≡ putAt t base d ⌝ }
 {
-    let d = v.desk as usize;
-    let base = d * 32;
     let mut after = t;
     for c in 0..32 {
-        after.cells[base + c] = v.row[c];
+        after.cells[base + c] = d.row[c];
     }
-    after.clocks[d] = v.clock;
-    after.slots[d] = v.slot;
-    after.served[d] = v.served;
+    let clocks = d.clocks;
+    let slots = d.slots;
+    let served = d.served;
+    after.clocks = clocks;
+    after.slots = slots;
+    after.served = served;
     after
 }

@@ -2,6 +2,7 @@ pub mod Choice
 pub mod Equal
 pub mod Fresh
 pub mod Kept
+pub mod Parts
 pub mod Places
 pub mod Rows
 pub mod RuleLaws

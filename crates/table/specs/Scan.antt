@@ -1,6 +1,7 @@
 -- Soundness of a table as the code looks for it: the tray, what each desk has beside its cells, and all cells in one walk. It is the same test.
 -- Assumes nothing.
 use mathlib.Core.Path.{_≡_, refl, sym, ap, _∙_}
+use mathlib.Core.List.{List}
 use mathlib.Core.Bool.{Bool, true, false, not, _&&_, _||_, cond}
 use Prim.Native.Nat.{ℕ, _+_, _*_, _/_, _%_, _≤_, _<_}
 use native.Mathlib.Decide.{decLt}
@@ -21,15 +22,18 @@ use Rattle.lists.specs.Test.{every, both, both-left, both-right, every-mapAt, m
 use Rattle.table.specs.declared.Table.{Table}
 use Rattle.table.specs.Rows.{Sized, row-length}
 use Rattle.table.specs.Sound.{cellZero, slotZero, rowZero, deskSound, tableSound}
-use Rattle.table.specs.Table.{pastClock, slotOf, recordOf}
+use Rattle.table.specs.Table.{pastClock, pastSlot, slotOf, recordOf}
 
 -- ---- the two walks
 -- entry i, cell i % 32 of desk i / 32, is one of the tray's
-abbrev pub usedAt : Tray → ℕ → Bool
-usedAt t i = ltb (i / 32) (t .desks) && ltb (i % 32) (t .cells)
+abbrev pub usedAt : ℕ → ℕ → ℕ → Bool
+usedAt desks cells i = ltb (i / 32) desks && ltb (i % 32) cells
+
+abbrev pub fits : ℕ → ℕ → ℕ → ℕ → Cell → Bool
+fits desks cells keeper i x = cellFits (usedAt desks cells i) (usedAt desks cells i && eqb keeper (i / 32)) desks x
 
 unfoldable pub cellFit : Tray → ℕ → Cell → Bool
-cellFit t i x = cellFits (usedAt t i) (usedAt t i && eqb (getD (t .keepers) (i % 32) 0) (i / 32)) (t .desks) x
+cellFit t i x = fits (t .desks) (t .cells) (getD (t .keepers) (i % 32) 0) i x
 
 unfoldable pub cellsFit : Table → Bool
 cellsFit t = every (mapAt (cellFit (t .tray)) (t .cells))
@@ -41,8 +45,15 @@ restSound t desk clock s served =
     (isWithin (t .desks) clock && slotSound t desk s && (waits s || not served))
     (isWithin 0 clock && slotZero s && not served)
 
-unfoldable pub restAt : Table → ℕ → Clock → Bool
-restAt t desk clock = restSound (t .tray) desk clock (slotOf t desk) (getD (t .served) desk false)
+abbrev pub restAt : Tray → List Slot → List Bool → ℕ → Clock → Bool
+restAt t slots served desk clock = restSound t desk clock (getD slots desk pastSlot) (getD served desk false)
+
+unfoldable pub restsSound : Tray → List Clock → List Slot → List Bool → Bool
+restsSound t clocks slots served = traySound t && every (mapAt (restAt t slots served) clocks)
+
+pub fits-cell : (t : Tray) (i : ℕ) (x : Cell) → fits (t .desks) (t .cells) (getD (t .keepers) (i % 32) 0) i x ≡ cellFit t i x
+unfolding cellFit
+fits-cell t i x = refl
 
 -- ---- one cell: where the desk is there, and where it is absent
 module _ (t : Tray) (p c : ℕ) (x : Cell) (i : c < 32) where
@@ -97,10 +108,10 @@ module _ (t : Table) (z : Sized t) (p : ℕ) (below : p < 8) where
     cell-is : ℕ → Cell → Bool
     fits : (c : ℕ) (x : Cell) → c < 32 → cellFit (t .tray) (p * 32 + c) x ≡ cell-is c x
     desk-is : deskSound t p ≡ (clock-is && every (mapAt cell-is (recordOf t p .row)) && slot-is && mark-is)
-    rest-is : restAt t p (getD (t .clocks) p pastClock) ≡ (clock-is && slot-is && mark-is)
+    rest-is : restAt (t .tray) (t .slots) (t .served) p (getD (t .clocks) p pastClock) ≡ (clock-is && slot-is && mark-is)
 
   parts : Parts
-  unfolding deskSound rowSound cellsSound rowZero restAt restSound recordOf
+  unfolding deskSound rowSound cellsSound rowZero restSound recordOf
   parts =
       elim (decLt p (t .tray .desks)) [
         | yes h ↦ record {
@@ -127,7 +138,7 @@ module _ (t : Table) (z : Sized t) (p : ℕ) (below : p < 8) where
     abbrev cells-are : Bool
     cells-are = every (mapAt (q .cell-is) (recordOf t p .row))
 
-    desk-scanned : deskSound t p ≡ true → (restAt t p (getD (t .clocks) p pastClock) ≡ true) × FitAt
+    desk-scanned : deskSound t p ≡ true → (restAt (t .tray) (t .slots) (t .served) p (getD (t .clocks) p pastClock) ≡ true) × FitAt
     desk-scanned e =
         let f = sym (q .desk-is) ∙ e in (
           q .rest-is ∙ rest-of (q .clock-is) cells-are (q .slot-is) (q .mark-is) f,
@@ -137,7 +148,7 @@ module _ (t : Table) (z : Sized t) (p : ℕ) (below : p < 8) where
               (cells-of (q .clock-is) cells-are (q .slot-is) (q .mark-is) f) c (omega (arith, long))),
         )
 
-    scanned-desk : restAt t p (getD (t .clocks) p pastClock) ≡ true → FitAt → deskSound t p ≡ true
+    scanned-desk : restAt (t .tray) (t .slots) (t .served) p (getD (t .clocks) p pastClock) ≡ true → FitAt → deskSound t p ≡ true
     scanned-desk r f =
         q .desk-is ∙ whole-of (q .clock-is) cells-are (q .slot-is) (q .mark-is) (sym (q .rest-is) ∙ r)
         (mapAt-every (q .cell-is) (recordOf t p .row) pastEnd
@@ -146,28 +157,40 @@ module _ (t : Table) (z : Sized t) (p : ℕ) (below : p < 8) where
         sym (q .fits c (cellAt (recordOf t p .row) c) i) ∙ (rw (taken c i) (f c i))))
 
 -- ---- the table
-pub scan-sound : (t : Table) → Sized t → traySound (t .tray) ≡ true → (every (mapAt (restAt t) (t .clocks)) && cellsFit t) ≡ tableSound t
-unfolding tableSound cellsFit
-scan-sound t z tray =
-    same-test (every (mapAt (restAt t) (t .clocks)) && cellsFit t) (tableSound t)
-    (λ e. both tray (mapAt-every (λ p _. deskSound t p) (t .clocks) pastClock
-    (λ p h.
-    let i : p < 8 = omega (arith, z .all-clocks) in
-    scanned-desk t z p i (parts t z p i)
-    (every-mapAt (restAt t) (t .clocks) pastClock (both-left (every (mapAt (restAt t) (t .clocks))) (cellsFit t) e) p h)
-    (λ c j. every-mapAt (cellFit (t .tray)) (t .cells) pastEnd
-    (both-right (every (mapAt (restAt t) (t .clocks))) (cellsFit t) e) (p * 32 + c) (omega (arith, z .all-cells))))))
-    (λ e. both
-    (mapAt-every (restAt t) (t .clocks) pastClock
-    (λ p h. desk e p (omega (arith, z .all-clocks)) .0))
-    (mapAt-every (cellFit (t .tray)) (t .cells) pastEnd
-    (λ k h.
-    let i : k / 32 < 8 = omega (arith, z .all-cells) in
-    let at : k / 32 * 32 + k % 32 ≡ k = omega arith in
-    rw at at (desk e (k / 32) i .1 (k % 32) (omega arith)))))
+module _ (t : Table) (z : Sized t) (tray : traySound (t .tray) ≡ true) where
+  abbrev rests : Bool
+  rests = every (mapAt (restAt (t .tray) (t .slots) (t .served)) (t .clocks))
+
+  desk-of-table : tableSound t ≡ true → (p : ℕ) (i : p < 8)
+      → (restAt (t .tray) (t .slots) (t .served) p (getD (t .clocks) p pastClock) ≡ true) × FitAt t z p i
+  unfolding tableSound
+  desk-of-table e p i =
+      desk-scanned t z p i (parts t z p i)
+      (every-mapAt (λ p _. deskSound t p) (t .clocks) pastClock
+      (both-right (traySound (t .tray)) (every (mapAt (λ p _. deskSound t p) (t .clocks))) e) p (omega (arith, z .all-clocks)))
+
+  scan-sound : (rests && cellsFit t) ≡ tableSound t
+  unfolding tableSound cellsFit
+  scan-sound =
+      same-test (rests && cellsFit t) (tableSound t)
+      (λ e. both tray (mapAt-every (λ p _. deskSound t p) (t .clocks) pastClock
+      (λ p h.
+      let i : p < 8 = omega (arith, z .all-clocks) in
+      scanned-desk t z p i (parts t z p i)
+      (every-mapAt (restAt (t .tray) (t .slots) (t .served)) (t .clocks) pastClock (both-left rests (cellsFit t) e) p h)
+      (λ c j. every-mapAt (cellFit (t .tray)) (t .cells) pastEnd (both-right rests (cellsFit t) e) (p * 32 + c) (omega (arith, z .all-cells))))))
+      (λ e. both
+      (mapAt-every (restAt (t .tray) (t .slots) (t .served)) (t .clocks) pastClock (λ p h. desk-of-table e p (omega (arith, z .all-clocks)) .0))
+      (mapAt-every (cellFit (t .tray)) (t .cells) pastEnd
+      (λ k h.
+      let i : k / 32 < 8 = omega (arith, z .all-cells) in
+      let at : k / 32 * 32 + k % 32 ≡ k = omega arith in
+      rw at at (desk-of-table e (k / 32) i .1 (k % 32) (omega arith)))))
+
+pub parts-sound : (t : Table) → Sized t → (restsSound (t .tray) (t .clocks) (t .slots) (t .served) && cellsFit t) ≡ tableSound t
+unfolding tableSound restsSound
+parts-sound t z = go (traySound (t .tray)) refl
   where
-    desk : tableSound t ≡ true → (p : ℕ) (i : p < 8) → (restAt t p (getD (t .clocks) p pastClock) ≡ true) × FitAt t z p i
-    desk e p i =
-        desk-scanned t z p i (parts t z p i)
-        (every-mapAt (λ p _. deskSound t p) (t .clocks) pastClock
-        (both-right (traySound (t .tray)) (every (mapAt (λ p _. deskSound t p) (t .clocks))) e) p (omega (arith, z .all-clocks)))
+    go : (b : Bool) → traySound (t .tray) ≡ b → (restsSound (t .tray) (t .clocks) (t .slots) (t .served) && cellsFit t) ≡ tableSound t
+    go true e = rw e (rw e at (scan-sound t z e))
+    go false e = rw e

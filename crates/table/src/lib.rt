@@ -28,6 +28,15 @@ impl Table {
     };
 }
 
+// What an event makes of the parts of a table: the row is that of the desk which acts.
+pub struct Done {
+    pub reply: Reply,
+    pub row: [Cell; 32],
+    pub clocks: [Clock; 8],
+    pub slots: [Slot; 8],
+    pub served: [bool; 8],
+}
+
 // What an event gives: the reply, and the table afterwards.
 pub struct Outcome {
     pub reply: Reply,

@@ -14,35 +14,26 @@ use Rattle.table.proofs.sound.cells_sound.Statement.{statement}
 use Rattle.table.proofs.sound.cells_sound.Tie as tie
 
 abbrev Inv-loop : tie.InvT-loop
-Inv-loop t tray desks cells ok₀ i₀ ok i = (i ≤ 256)
+Inv-loop t tray ok₀ i₀ ok i = (i ≤ 256)
     × (every (mapAt (cellFit (t .tray)) (t .cells)) ≡ (ok && every (drop i (mapAt (cellFit (t .tray)) (t .cells)))))
 
 abbrev μ-loop : tie.MeasureT-loop
-μ-loop t tray desks cells ok₀ i₀ ok i = 256 - i
-
-cast-desks : tie.Need-cast-desks Inv-loop μ-loop
-cast-desks c = search needs
-
-cast-cells : tie.Need-cast-cells Inv-loop μ-loop
-cast-cells c = search needs
+μ-loop t tray ok₀ i₀ ok i = 256 - i
 
 loop-holds : tie.Need-loop-holds Inv-loop μ-loop
 loop-holds c = (search needs, refl)
 
-element-copy-out-kept : tie.Need-element-copy-out-kept Inv-loop μ-loop
-element-copy-out-kept c = omega arith
+element-copy-out-scan : tie.Need-element-copy-out-scan Inv-loop μ-loop
+element-copy-out-scan c = omega arith
 
-cast-kept : tie.Need-cast-kept Inv-loop μ-loop
-cast-kept c = search needs
+mul-scan : tie.Need-mul-scan Inv-loop μ-loop
+mul-scan c = search needs
 
-mul-cell-sound : tie.Need-mul-cell-sound Inv-loop μ-loop
-mul-cell-sound c = search needs
+element-copy-out-scan-2 : tie.Need-element-copy-out-scan-2 Inv-loop μ-loop
+element-copy-out-scan-2 c = search needs
 
-element-copy-out-cell-sound : tie.Need-element-copy-out-cell-sound Inv-loop μ-loop
-element-copy-out-cell-sound c = search needs
-
-cell-sound-requires : tie.Need-cell-sound-requires Inv-loop μ-loop
-cell-sound-requires c κs = search needs
+scan-requires : tie.Need-scan-requires Inv-loop μ-loop
+scan-requires c κs = search needs
 
 add-i : tie.Need-add-i Inv-loop μ-loop
 add-i c = search needs
@@ -57,7 +48,7 @@ loop-again c =
     let t = at-loop .before .before .args .t1 in
     let long : length (t .cells) ≡ 256 = search (needs, length-mapped) in (
       omega arith,
-      rw (c .cell-sound .ensures)
+      rw (c .scan .ensures)
           (mapAt-turn (cellFit (t .tray)) (t .cells) pastEnd (at-loop .loop .i) (at-loop .loop .ok) (omega arith) (at-loop .loop .inv .1)),
     )
 
@@ -75,14 +66,11 @@ cells-sound-spec =
     (tie.spec
     Inv-loop
     μ-loop
-    cast-desks
-    cast-cells
     loop-holds
-    element-copy-out-kept
-    cast-kept
-    mul-cell-sound
-    element-copy-out-cell-sound
-    cell-sound-requires
+    element-copy-out-scan
+    mul-scan
+    element-copy-out-scan-2
+    scan-requires
     add-i
     loop-less
     loop-again

@@ -1,0 +1,4 @@
+pub mod Element
+pub mod Known
+pub mod Made
+pub mod Row
