@@ -25,9 +25,9 @@ use denote.Laws.{Is}
 use denote.Array as A
 use denote.Shadow.{shadow}
 
--- the cell with any value u gives back the entry, as `back u`
-abbrev Way : {M : Type 1} (𝓤 : URA M) (H : Heap 𝓤) (A : Atoms 𝓤) → Share → Ty → ℕ → ℕ → (Val → Item 𝓤) → SProp 𝓤
-Way 𝓤 H A q τ b o back = all 𝓤 (λ (u : Val). wand 𝓤 (H .at q τ b o u) (mean 𝓤 H A (back u)))
+-- whatever value u the cell has then, with it the entry is whole again, as `back u`
+abbrev Whence : {M : Type 1} (𝓤 : URA M) (H : Heap 𝓤) (A : Atoms 𝓤) → Share → Ty → ℕ → ℕ → (Val → Item 𝓤) → SProp 𝓤
+Whence 𝓤 H A q τ b o back = all 𝓤 (λ (u : Val). wand 𝓤 (H .at q τ b o u) (mean 𝓤 H A (back u)))
 
 -- ---- in a list of cells side by side
 module _ {M : Type 1} (𝓤 : URA M) (H : Heap 𝓤) (A : Atoms 𝓤) (W : Given 𝓤 H A) (q : Share) (τ : Ty) (b : ℕ) where
@@ -57,7 +57,7 @@ module _ {M : Type 1} {𝓤 : URA M} {H : Heap 𝓤} {A : Atoms 𝓤} {K : Type 
   cooked t τ {i} {q} {b} {o} {v} {back} p =
       record {
         out =
-            qed W (i ∷ []) ∵ use1 W (‵ (fat q (rawTy τ) b o v) ⊛ raw (Way 𝓤 H A q (rawTy τ) b o back)) (p .out) $ split ! $
+            qed W (i ∷ []) ∵ use1 W (‵ (fat q (rawTy τ) b o v) ⊛ raw (Whence 𝓤 H A q (rawTy τ) b o back)) (p .out) $ split ! $
             use1 W (‵ (fat q τ b o v)) (W .laws .raw-at q τ b o v) $ frame ! $
             each ! (λ (u : Val). wand 𝓤 (H .at q τ b o u) (mean 𝓤 H A (back u))) (λ u. assume {P = mean 𝓤 H A (back u)} ! (‵ (fat q τ b o u)) $
             use1 W (‵ (fat q (rawTy τ) b o u)) (W .laws .at-raw q τ b o u) $ move ! (1 ∷ []) $
@@ -75,7 +75,7 @@ module _ {M : Type 1} {𝓤 : URA M} {H : Heap 𝓤} {A : Atoms 𝓤} {K : Type 
       record {
         out =
             subst Goal-at (place-is (size τ) o j) (qed W (i ∷ []) ∵
-            use1 W (‵ (fat q (tyArray τ n) b o (vstruct (ofList us))) ⊛ raw (Way 𝓤 H A q (tyArray τ n) b o back)) (p .out) $ split ! $
+            use1 W (‵ (fat q (tyArray τ n) b o (vstruct (ofList us))) ⊛ raw (Whence 𝓤 H A q (tyArray τ n) b o back)) (p .out) $ split ! $
             use1 W (raw (elems 𝓤 H q τ b o us)) (W .laws .at-elems q τ n b o us) $
             use1 W (‵ (fat q τ b at (getD us j vunit)) ⊛ raw (all 𝓤 (Back 𝓤 H A W q τ b us j o)))
             (one-of 𝓤 H A W q τ b us j o (subst (λ (m : ℕ). j < m) (sym l) h)) $ split ! $ frame ! $
@@ -97,7 +97,7 @@ module _ {M : Type 1} {𝓤 : URA M} {H : Heap 𝓤} {A : Atoms 𝓤} {K : Type 
       new u = back (vstruct (ofList (set us j u)))
 
       Goal-at : ℕ → Type 1
-      Goal-at a = ent 𝓤 (mean 𝓤 H A i) (sep 𝓤 (H .at q τ b a (getD us j vunit)) (Way 𝓤 H A q τ b a new))
+      Goal-at a = ent 𝓤 (mean 𝓤 H A i) (sep 𝓤 (H .at q τ b a (getD us j vunit)) (Whence 𝓤 H A q τ b a new))
 
       Whole : Val → SProp 𝓤
       Whole w = wand 𝓤 (H .at q (tyArray τ n) b o w) (mean 𝓤 H A (back w))
