@@ -1,12 +1,12 @@
 -- What the code needs to know of an event that is not refused: every place that it names is there.
 -- Assumes nothing.
 use mathlib.Core.Path.{_≡_}
-use mathlib.Core.Bool.{true, false, not, _&&_, _||_, or-true}
+use mathlib.Core.Bool.{true}
 use mathlib.Core.Logic.{⊎-elim}
-use Prim.Native.Nat.{ℕ, _<_}
+use Prim.Native.Nat.{_<_}
 use native.Mathlib.Omega.{arith}
-use borrow.Author.Tests.{ltb-true, eqb-false, eq-eqb, not-false}
-use lib.Dec.{eqb, ltb}
+use borrow.Author.Tests.{eqb-false, eq-eqb}
+use lib.Dec.{eqb}
 use Rattle.clock.specs.Clock.{number}
 use Rattle.desk.specs.declared.Event.{Event}
 use Rattle.desk.specs.RuleLaws.{not-both}
@@ -20,18 +20,6 @@ use Rattle.table.specs.Table.{slotOf, keeperOf, recordOf}
 pub sound-tray : (t : Table) → tableSound t ≡ true → TrayRule (t .tray)
 unfolding tableSound
 sound-tray t e = tray-rule (t .tray) (search both-left)
-
-pub desk-there : (t : Table) → tableSound t ≡ true → (desk : ℕ) → desk < t .tray .desks → desk < 8
-desk-there t e desk h = omega (arith, sound-tray t e .desks-most)
-
--- a drop that is in range names a place of the row
-pub drop-there : (t : Table) (e : Event) → tableSound t ≡ true
-    → ((eqb (e .kind) 1 || eqb (e .kind) 2 || eqb (e .kind) 5) && not (ltb (e .cell) (t .tray .cells))) ≡ false → e .kind ≡ 5 → e .cell < 32
-drop-there t e sound range k =
-    let own = eqb (e .kind) 1 || eqb (e .kind) 2 || eqb (e .kind) 5 in
-    let is-own : own ≡ true = rw (eq-eqb (e .kind) 5 k, or-true (eqb (e .kind) 1 || eqb (e .kind) 2)) in
-    let in-range = not-false (ltb (e .cell) (t .tray .cells)) (not-both own (not (ltb (e .cell) (t .tray .cells))) range is-own) in
-    omega (arith, ltb-true (e .cell) (t .tray .cells) in-range, sound-tray t sound .cells-most)
 
 module _ (t : Table) (e : Event) (a : Passed t e) where
   pub take-there : e .kind ≡ 3
