@@ -5,8 +5,6 @@ ghost use Prim.Native.Nat.{_*_, _<_};
 ghost use lib.ListN.{getD};
 ghost use Rattle.table.specs.Parts.{actor as actor·def, recordWith, putIn, Ready, actOf};
 ghost use Rattle.table.specs.Table.{pastSlot};
-use asking::event_done;
-use bringing::bring_done;
 use clock::Clock;
 use desk::Cell;
 use desk::Event;
@@ -15,7 +13,9 @@ use desk::Record;
 use desk::Slot;
 use desk::Step;
 use desk::Tray;
-use serving::serve_done;
+use desk_bring::bring_done;
+use desk_event::event_done;
+use desk_serve::serve_done;
 use table::Done;
 
 // The desk whose record the event is for: the keeper of what is asked, in a take.

@@ -5,8 +5,8 @@ use mathlib.Core.List.{List, [], _∷_}
 use Prim.Native.Nat.{ℕ, _+_, max}
 use lib.Dec.{leb, ltb, eqb}
 use lib.ListN.{getD, set, replicate}
-use Rattle.lists.specs.Each.{mapAt}
-use Rattle.lists.specs.Test.{every, some}
+use Rattle.theory_lists.specs.Each.{mapAt}
+use Rattle.theory_lists.specs.Test.{every, some}
 use Rattle.clock.specs.declared.Clock.{Clock}
 
 -- the clock's number for desk k

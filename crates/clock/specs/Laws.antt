@@ -10,7 +10,7 @@ use lib.Dec.{leb, ltb}
 use lib.ListN.{length, getD, replicate, getD-replicate, List·getD-eq-default}
 use lib.Seq.{ext-getD, getD-set-same, getD-set-other}
 use borrow.Author.Tests.{ltb-true, leb-true, eqb-true, lt-ltb, le-leb, le-ltb, eq-eqb}
-use Rattle.lists.specs.Test.{every, some, fails, both, both-left, both-right, either, either-left, every-at, every-of, every-mapAt, mapAt-every, some-at, some-of}
+use Rattle.theory_lists.specs.Test.{every, some, fails, both, both-left, both-right, either, either-left, every-at, every-of, every-mapAt, mapAt-every, some-at, some-of}
 use Rattle.clock.specs.declared.Clock.{Clock}
 use Rattle.clock.specs.Clock.{number, zeroClock, paired, merged, isBefore, zeroPast, isWithin, raised}
 

@@ -7,8 +7,8 @@ use lib.Dec.{ltb, eqb}
 use lib.ListN.{getD}
 use Rattle.clock.specs.declared.Clock.{Clock}
 use Rattle.clock.specs.Clock.{zeroClock, isBefore}
-use Rattle.lists.specs.Each.{mapAt}
-use Rattle.lists.specs.Sum.{sum}
+use Rattle.theory_lists.specs.Each.{mapAt}
+use Rattle.theory_lists.specs.Sum.{sum}
 use Rattle.desk.specs.declared.Cell.{Cell}
 use Rattle.desk.specs.declared.Message.{Message}
 use Rattle.desk.specs.declared.Slot.{Slot}

@@ -12,8 +12,8 @@ use lib.ListN.{length}
 use Rattle.clock.specs.declared.Clock.{Clock}
 use Rattle.clock.specs.Clock.{raised}
 use Rattle.clock.specs.Laws.{ZeroPast, zero-past, merge-past, raised-past}
-use Rattle.lists.specs.Each.{places-set, places-mapAt}
-use Rattle.lists.specs.Test.{fails, both-left, both-right}
+use Rattle.theory_lists.specs.Each.{places-set, places-mapAt}
+use Rattle.theory_lists.specs.Test.{fails, both-left, both-right}
 use Rattle.desk.specs.declared.Cell.{Cell}
 use Rattle.desk.specs.declared.Event.{Event}
 use Rattle.desk.specs.declared.Message.{Message}

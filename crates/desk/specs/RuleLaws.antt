@@ -9,7 +9,7 @@ use borrow.Author.Tests.{ltb-true, eqb-true, eqb-false, not-true, not-false, eq-
 use lib.Dec.{ltb, eqb}
 use Rattle.clock.specs.Clock.{number}
 use Rattle.clock.specs.Laws.{ZeroPast, within-past}
-use Rattle.lists.specs.Test.{both-left, both-right}
+use Rattle.theory_lists.specs.Test.{both-left, both-right}
 use Rattle.desk.specs.declared.Event.{Event}
 use Rattle.desk.specs.declared.Message.{Message}
 use Rattle.desk.specs.declared.Record.{Record}

@@ -6,8 +6,8 @@ use Prim.Native.Nat.{ℕ, _+_}
 use lib.Dec.{eqb}
 use lib.ListN.{length, length-set}
 use Rattle.clock.specs.declared.Clock.{Clock}
-use Rattle.lists.specs.Each.{length-mapAt}
-use Rattle.lists.specs.Test.{whichever}
+use Rattle.theory_lists.specs.Each.{length-mapAt}
+use Rattle.theory_lists.specs.Test.{whichever}
 use Rattle.desk.specs.declared.Event.{Event}
 use Rattle.desk.specs.declared.Message.{Message}
 use Rattle.desk.specs.declared.Record.{Record}

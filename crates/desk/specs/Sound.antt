@@ -4,8 +4,8 @@ use mathlib.Core.Bool.{Bool, not, _&&_, _||_, cond}
 use Prim.Native.Nat.{ℕ}
 use lib.Dec.{ltb, leb, eqb}
 use Rattle.clock.specs.Clock.{isWithin}
-use Rattle.lists.specs.Each.{mapAt}
-use Rattle.lists.specs.Test.{every}
+use Rattle.theory_lists.specs.Each.{mapAt}
+use Rattle.theory_lists.specs.Test.{every}
 use Rattle.desk.specs.declared.Cell.{Cell}
 use Rattle.desk.specs.declared.Record.{Record}
 use Rattle.desk.specs.declared.Slot.{Slot}

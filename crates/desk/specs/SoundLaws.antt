@@ -10,7 +10,7 @@ use lib.Dec.{ltb, eqb}
 use lib.ListN.{length, getD}
 use Rattle.clock.specs.Clock.{isWithin}
 use Rattle.clock.specs.Laws.{ZeroPast, within-past, past-within}
-use Rattle.lists.specs.Test.{fails, both, both-left, both-right, every-mapAt, mapAt-every}
+use Rattle.theory_lists.specs.Test.{fails, both, both-left, both-right, every-mapAt, mapAt-every}
 use Rattle.desk.specs.declared.Cell.{Cell}
 use Rattle.desk.specs.declared.Record.{Record}
 use Rattle.desk.specs.declared.Slot.{Slot}

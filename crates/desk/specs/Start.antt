@@ -6,8 +6,8 @@ use Prim.Native.Nat.{ℕ, zero, suc}
 use lib.Dec.{ltb, leb}
 use lib.ListN.{replicate}
 use Rattle.clock.specs.Clock.{zeroClock}
-use Rattle.lists.specs.Each.{mapAt}
-use Rattle.lists.specs.Test.{every}
+use Rattle.theory_lists.specs.Each.{mapAt}
+use Rattle.theory_lists.specs.Test.{every}
 use Rattle.desk.specs.declared.Cell.{Cell}
 use Rattle.desk.specs.declared.Record.{Record}
 use Rattle.desk.specs.declared.Start.{Start}

@@ -9,8 +9,8 @@ use borrow.Author.Tests.{ltb-true, leb-true, leb-false, not-false, lt-ltb}
 use lib.Dec.{ltb, leb, eqb}
 use lib.ListN.{length, getD, replicate, length-replicate}
 use Rattle.clock.specs.Laws.{zero-past}
-use Rattle.lists.specs.Each.{mapAt, length-mapAt, getD-mapAt}
-use Rattle.lists.specs.Test.{both-left, both-right, either-left, every-mapAt}
+use Rattle.theory_lists.specs.Each.{mapAt, length-mapAt, getD-mapAt}
+use Rattle.theory_lists.specs.Test.{both-left, both-right, either-left, every-mapAt}
 use Rattle.desk.specs.declared.Tray.{Tray}
 use Rattle.desk.specs.Desk.{noCell, pastEnd, cellAt, keeps}
 use Rattle.desk.specs.Kept.{no-slot-rule}

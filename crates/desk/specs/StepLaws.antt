@@ -9,9 +9,9 @@ use native.Mathlib.Omega.{arith}
 use lib.Dec.{eqb, ltb}
 use Rattle.clock.specs.declared.Clock.{Clock}
 use Rattle.clock.specs.Clock.{number, raised}
-use Rattle.lists.specs.Each.{mapAt, mapAt-same, getD-mapAt}
-use Rattle.lists.specs.Sum.{sum}
-use Rattle.lists.specs.Test.{both-left, whichever}
+use Rattle.theory_lists.specs.Each.{mapAt, mapAt-same, getD-mapAt}
+use Rattle.theory_lists.specs.Sum.{sum}
+use Rattle.theory_lists.specs.Test.{both-left, whichever}
 use Rattle.desk.specs.declared.Cell.{Cell}
 use Rattle.desk.specs.declared.Event.{Event}
 use Rattle.desk.specs.declared.Message.{Message}

@@ -8,7 +8,7 @@ use native.Mathlib.Decide.{decLt}
 use native.Mathlib.Omega.{arith}
 use lib.ListN.{length, getD, take, drop, length-append, length-take, length-drop, take-append-drop, drop-of-length-le, List·getD-eq-default}
 use lib.Seq.{length-take-le, take-at, drop-at, take-add, drop-drop, take-nil, getD-take, getD-drop}
-use Rattle.lists.specs.Sum.{sum}
+use Rattle.theory_lists.specs.Sum.{sum}
 
 -- a number in w bytes, the last of which counts ones
 unfoldable pub bytes : ℕ → ℕ → List ℕ

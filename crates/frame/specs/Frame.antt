@@ -5,9 +5,9 @@ use mathlib.Core.List.{List, _∷_, _++_}
 use Prim.Native.Nat.{ℕ, zero, suc, _+_}
 use lib.Dec.{leb, ltb, eqb}
 use lib.ListN.{length, getD, take, drop, replicate}
-use Rattle.lists.specs.Each.{mapAt}
-use Rattle.lists.specs.Sum.{sum}
-use Rattle.lists.specs.Test.{every}
+use Rattle.theory_lists.specs.Each.{mapAt}
+use Rattle.theory_lists.specs.Sum.{sum}
+use Rattle.theory_lists.specs.Test.{every}
 use Rattle.desk.specs.declared.Message.{Message}
 use Rattle.desk.specs.Desk.{noMessage}
 use Rattle.frame.specs.declared.Reading.{Reading}

@@ -10,7 +10,7 @@ use lib.Dec.{ltb, eqb}
 use lib.ListN.{length, getD, take, drop, replicate, length-take, drop-of-length-le}
 use lib.Seq.{drop-cons, take-add, take-take}
 use borrow.Author.Tests.{ltb-false, leb-false, eqb-true, lt-ltb, le-ltb, eq-eqb, ne-eqb, not-false}
-use Rattle.lists.specs.Sum.{sum}
+use Rattle.theory_lists.specs.Sum.{sum}
 use Rattle.desk.specs.declared.Message.{Message}
 use Rattle.desk.specs.Desk.{noMessage}
 use Rattle.frame.specs.Bytes.{numeral, followed, bytes, spell, numbers}

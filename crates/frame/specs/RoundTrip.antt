@@ -9,8 +9,8 @@ use native.Mathlib.Decide.{decLt}
 use lib.ListN.{length, getD, take, drop, replicate, length-take, length-append, getD-replicate, List·getD-eq-default}
 use lib.Seq.{take-at, take-add, take-take, length-take-le}
 use borrow.Author.Tests.{lt-ltb, le-ltb, eqb-true}
-use Rattle.lists.specs.Sum.{sum}
-use Rattle.lists.specs.Test.{every-mapAt, mapAt-every}
+use Rattle.theory_lists.specs.Sum.{sum}
+use Rattle.theory_lists.specs.Test.{every-mapAt, mapAt-every}
 use Rattle.clock.specs.Clock.{number}
 use Rattle.desk.specs.declared.Message.{Message}
 use Rattle.frame.specs.declared.Reading.{Reading}

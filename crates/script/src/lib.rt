@@ -1,12 +1,12 @@
 // What the script program answers, as a function from an input slice to an output slice.
 use desk::Event;
 use desk::Reply;
-use printing::put_bad_line;
-use printing::put_reply;
-use printing::put_single;
-use printing::put_too_long;
 use table::Table;
 use text::read_line;
+use text_print::put_bad_line;
+use text_print::put_reply;
+use text_print::put_single;
+use text_print::put_too_long;
 ghost use mathlib.Core.List.{_∷_, []};
 ghost use Prim.Native.Nat.{_+_, _≤_, _<_};
 ghost use lib.ListN.{length, drop};
@@ -42,7 +42,7 @@ fn begin(desks: u32, cells: u32, s: &[u8], at: usize, out: &mut [u8]) -> usize
     if (0 < cells) & (cells <= 32) {
         return second(desks, cells, s, at, out);
     }
-    let made = setting::set_up(desks, cells, [0; 32]);
+    let made = table_set_up::set_up(desks, cells, [0; 32]);
     put_single(made.code, out, 0)
 }
 
@@ -59,7 +59,7 @@ fn second(desks: u32, cells: u32, s: &[u8], at: usize, out: &mut [u8]) -> usize
         return put_bad_line(2, out, 0);
     }
     let keepers = two.n;
-    let made = setting::set_up(desks, cells, keepers);
+    let made = table_set_up::set_up(desks, cells, keepers);
     let code = made.code;
     if code != 0 {
         return put_single(code, out, 0);

@@ -14,8 +14,8 @@ use Rattle.desk.specs.Desk.{cellAt, keeps, waits, isBlank}
 use Rattle.desk.specs.Rules.{eventDone, readRule, writeRule}
 use Rattle.desk.specs.Sound.{traySound, rowSound, keeperSound, cellsSound, cellSound, slotSound, slotNames, slotCarries}
 use Rattle.desk.specs.Start.{keepersRight, freshTray, setUpRefusal}
-use Rattle.lists.specs.Each.{mapAt}
-use Rattle.lists.specs.Test.{every, both}
+use Rattle.theory_lists.specs.Each.{mapAt}
+use Rattle.theory_lists.specs.Test.{every, both}
 use Rattle.table.specs.declared.Outcome.{Outcome}
 use Rattle.table.specs.declared.Table.{Table}
 use Rattle.table.specs.Fresh.{set-up-sized}

@@ -25,7 +25,7 @@ use Rattle.desk.specs.SameDesk.{serve-answers, event-same, bring-same}
 use Rattle.desk.specs.Sound.{isSound}
 use Rattle.desk.specs.SoundLaws.{SlotRule, rule-sound}
 use Rattle.desk.specs.StepLaws.{event-told}
-use Rattle.lists.specs.Test.{both}
+use Rattle.theory_lists.specs.Test.{both}
 use Rattle.table.specs.declared.Outcome.{Outcome}
 use Rattle.table.specs.declared.Table.{Table}
 use Rattle.table.specs.Rows.{Sized, row-length, put-same}

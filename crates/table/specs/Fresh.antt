@@ -15,9 +15,9 @@ use Rattle.desk.specs.Desk.{noCell, noSlot, pastEnd, cellAt, keeps}
 use Rattle.desk.specs.SoundLaws.{TrayRule, keeps-in}
 use Rattle.desk.specs.Start.{storedKeeper, freshTray, setUpRefusal, keptAlone, freshRecord, firstOf, startRefusal, answerStart, startRule}
 use Rattle.desk.specs.StartLaws.{settled, fresh-tray, fresh-length, fresh-cell, fresh-row}
-use Rattle.lists.specs.Each.{mapAt, length-mapAt, getD-mapAt}
-use Rattle.lists.specs.Part.{getD-slice}
-use Rattle.lists.specs.Test.{fails, both-left, both-right}
+use Rattle.theory_lists.specs.Each.{mapAt, length-mapAt, getD-mapAt}
+use Rattle.theory_lists.specs.Part.{getD-slice}
+use Rattle.theory_lists.specs.Test.{fails, both-left, both-right}
 use Rattle.table.specs.declared.Table.{Table}
 use Rattle.table.specs.Rows.{Sized}
 use Rattle.table.specs.SetUp.{freshCell, freshTable, noTable, answerSetUp, setUpRule}

@@ -20,7 +20,7 @@ use Rattle.desk.specs.RuleLaws.{allowed}
 use Rattle.desk.specs.Rules.{eventDone, takes, readServed, writeServed, serveDone, bringDone}
 use Rattle.desk.specs.SameDesk.{SameDesk, Answers, serve-answers, event-same, serve-same, bring-same}
 use Rattle.desk.specs.SoundLaws.{SlotRule, RowRule}
-use Rattle.lists.specs.Test.{whichever}
+use Rattle.theory_lists.specs.Test.{whichever}
 use Rattle.table.specs.declared.Outcome.{Outcome}
 use Rattle.table.specs.declared.Table.{Table}
 use Rattle.table.specs.Rows.{Sized, row-length, put-sized, put-same, put-other, slot-sized, slot-same, slot-other}

@@ -11,7 +11,7 @@ use Rattle.clock.specs.Clock.{number}
 use Rattle.desk.specs.declared.Event.{Event}
 use Rattle.desk.specs.RuleLaws.{not-both}
 use Rattle.desk.specs.SoundLaws.{TrayRule, tray-rule}
-use Rattle.lists.specs.Test.{both-left}
+use Rattle.theory_lists.specs.Test.{both-left}
 use Rattle.table.specs.declared.Table.{Table}
 use Rattle.table.specs.RuleLaws.{Passed, asked-kind, own-kind, here, take-asks, bring-asks}
 use Rattle.table.specs.Sound.{tableSound}

@@ -13,7 +13,7 @@ use Rattle.desk.specs.declared.Slot.{Slot}
 use Rattle.desk.specs.Desk.{pastEnd}
 use Rattle.desk.specs.Rules.{withSlot}
 use Rattle.desk.specs.SameDesk.{SameDesk}
-use Rattle.lists.specs.Part.{slice-paste, slice-apart}
+use Rattle.theory_lists.specs.Part.{slice-paste, slice-apart}
 use Rattle.table.specs.declared.Table.{Table}
 use Rattle.table.specs.Table.{pastClock, pastSlot, recordOf, putBack, withSlotOf}
 

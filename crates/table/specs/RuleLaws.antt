@@ -16,7 +16,7 @@ use Rattle.desk.specs.Desk.{keeps, waits}
 use Rattle.desk.specs.RuleLaws.{passed, one-of, not-both}
 use Rattle.desk.specs.Rules.{eventRefusal}
 use Rattle.desk.specs.SoundLaws.{SoundRule, rule-sound, no-way}
-use Rattle.lists.specs.Test.{both-left, both-right}
+use Rattle.theory_lists.specs.Test.{both-left, both-right}
 use Rattle.table.specs.declared.Outcome.{Outcome}
 use Rattle.table.specs.declared.Table.{Table}
 use Rattle.table.specs.Rows.{Sized}

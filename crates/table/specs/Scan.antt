@@ -16,9 +16,9 @@ use Rattle.desk.specs.declared.Slot.{Slot}
 use Rattle.desk.specs.declared.Tray.{Tray}
 use Rattle.desk.specs.Desk.{keeps, waits, pastEnd, cellAt}
 use Rattle.desk.specs.Sound.{cellFits, cellSound, cellsSound, slotSound, traySound, rowSound}
-use Rattle.lists.specs.Each.{mapAt}
-use Rattle.lists.specs.Part.{getD-slice}
-use Rattle.lists.specs.Test.{every, both, both-left, both-right, every-mapAt, mapAt-every, same-test}
+use Rattle.theory_lists.specs.Each.{mapAt}
+use Rattle.theory_lists.specs.Part.{getD-slice}
+use Rattle.theory_lists.specs.Test.{every, both, both-left, both-right, every-mapAt, mapAt-every, same-test}
 use Rattle.table.specs.declared.Table.{Table}
 use Rattle.table.specs.Rows.{Sized, row-length}
 use Rattle.table.specs.Sound.{cellZero, slotZero, rowZero, deskSound, tableSound}

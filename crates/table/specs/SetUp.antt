@@ -9,7 +9,7 @@ use Rattle.desk.specs.declared.Cell.{Cell}
 use Rattle.desk.specs.declared.Tray.{Tray}
 use Rattle.desk.specs.Desk.{noCell, noSlot}
 use Rattle.desk.specs.Start.{keptAlone, freshTray, setUpRefusal}
-use Rattle.lists.specs.Each.{mapAt}
+use Rattle.theory_lists.specs.Each.{mapAt}
 use Rattle.table.specs.declared.SetUp.{SetUp}
 use Rattle.table.specs.declared.Table.{Table}
 

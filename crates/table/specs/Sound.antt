@@ -9,8 +9,8 @@ use Rattle.desk.specs.declared.Cell.{Cell}
 use Rattle.desk.specs.declared.Record.{Record}
 use Rattle.desk.specs.declared.Slot.{Slot}
 use Rattle.desk.specs.Sound.{traySound, rowSound}
-use Rattle.lists.specs.Each.{mapAt}
-use Rattle.lists.specs.Test.{every}
+use Rattle.theory_lists.specs.Each.{mapAt}
+use Rattle.theory_lists.specs.Test.{every}
 use Rattle.table.specs.declared.Table.{Table}
 use Rattle.table.specs.Table.{recordOf}
 

@@ -15,7 +15,7 @@ use Rattle.desk.specs.declared.Tray.{Tray}
 use Rattle.desk.specs.Desk.{pastEnd, cellAt}
 use Rattle.desk.specs.Sound.{keeperSound}
 use Rattle.desk.specs.SoundLaws.{TrayRule, tray-rule, rule-tray, RowRule, row-rule, rule-row}
-use Rattle.lists.specs.Test.{both, both-left, both-right, every-mapAt, mapAt-every}
+use Rattle.theory_lists.specs.Test.{both, both-left, both-right, every-mapAt, mapAt-every}
 use Rattle.table.specs.declared.Table.{Table}
 use Rattle.table.specs.Rows.{Sized}
 use Rattle.table.specs.Sound.{cellZero, slotZero, rowZero, deskSound, tableSound}

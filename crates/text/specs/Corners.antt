@@ -8,7 +8,7 @@ use mathlib.Core.Option.{Option·elim}
 use Prim.Native.Nat.{ℕ}
 use lib.Dec.{leb, ltb}
 use lib.ListN.{take}
-use Rattle.lists.specs.Test.{every}
+use Rattle.theory_lists.specs.Test.{every}
 use Rattle.text.specs.Number.{given, isDigit, valueFrom, startsWell, numberOf, digitsWithin, decimal}
 use Rattle.text.specs.Line.{onFirst, pieces, withFirst, allNumbers, numbersOf, lineNumbers, endedLines, linesOf, joined, spaced, lineOf, badLine}
 use Rattle.text.specs.Script.{first, others, having, run, started, sized, begun, answer}

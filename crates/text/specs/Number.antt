@@ -5,7 +5,7 @@ use mathlib.Core.List.{List, [], _∷_, _++_, map}
 use mathlib.Core.Option.{Option, none, some}
 use Prim.Native.Nat.{ℕ, zero, suc, _+_, _-_, _*_, _/_, _%_}
 use lib.Dec.{leb, ltb, eqb}
-use Rattle.lists.specs.Test.{every}
+use Rattle.theory_lists.specs.Test.{every}
 
 -- what is there only if a test says so
 unfoldable pub given : {A : Type 0} → Bool → A → Option A

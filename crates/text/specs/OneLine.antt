@@ -10,7 +10,7 @@ use lib.Dec.{eqb}
 use lib.ListN.{length, take, drop, replicate, length-append}
 use lib.Seq.{drop-append-seam, length-take-le, sets-eq}
 use borrow.Author.Tests.{eqb-true, eq-eqb, ne-eqb}
-use Rattle.lists.specs.Test.{every, both, both-left, both-right}
+use Rattle.theory_lists.specs.Test.{every, both, both-left, both-right}
 use Rattle.text.specs.Number.{largest, isDigit, numberOf, decimal}
 use Rattle.text.specs.Digits.{length-decimal}
 use Rattle.text.specs.Line.{space, lf, before, onFirst, pieces, withFirst, allNumbers, numbersOf, lineNumbers, joined, spaced, lineOf, badLine}

@@ -10,7 +10,7 @@ use native.Mathlib.Omega.{arith}
 use lib.Dec.{leb, eqb}
 use lib.ListN.{length, getD, List·getD-append}
 use borrow.Author.Tests.{le-leb, leb-true, ne-eqb, eqb-false, not-true}
-use Rattle.lists.specs.Test.{every, both, both-left, both-right}
+use Rattle.theory_lists.specs.Test.{every, both, both-left, both-right}
 use Rattle.text.specs.Number.{given, largest, isDigit, valueFrom, startsWell, numberOf, decimal}
 use Rattle.text.specs.Digits.{decimal-one, decimal-more, length-one, length-more}
 use Rattle.text.specs.Value.{starts-one, starts-more}

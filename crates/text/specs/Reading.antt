@@ -6,7 +6,7 @@ use mathlib.Core.Option.{Option, none, some}
 use Prim.Native.Nat.{ℕ, _+_, _-_, _*_, min}
 use lib.Dec.{leb}
 use lib.ListN.{length, drop, replicate}
-use Rattle.lists.specs.Test.{every}
+use Rattle.theory_lists.specs.Test.{every}
 use Rattle.text.specs.Number.{given, largest, isDigit, valueFrom}
 use Rattle.text.specs.Line.{firstLine, lineNumbers}
 use Rattle.text.specs.declared.Number.{Number}

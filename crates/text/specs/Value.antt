@@ -12,7 +12,7 @@ use lib.Dec.{leb, eqb}
 use lib.ListN.{length, getD, drop, drop-of-length-le}
 use lib.Seq.{drop-cons}
 use borrow.Author.Tests.{lt-leb}
-use Rattle.lists.specs.Test.{every}
+use Rattle.theory_lists.specs.Test.{every}
 use Rattle.text.specs.Number.{given, largest, isDigit, valueFrom, startsWell, numberOf}
 use Rattle.text.specs.Reading.{past, grownBy, capped, within}
 

@@ -10,8 +10,8 @@ use Prim.Native.Nat.{ℕ, _+_, _-_, _≤_, _<_}
 use native.Mathlib.Numerals.{add-one}
 use lib.Dec.{ltb, eqb}
 use lib.ListN.{length, getD, drop}
-use Rattle.lists.specs.Each.{mapAt, length-mapAt, getD-mapAt}
-use Rattle.lists.specs.Test.{every, every-turn, every-end}
+use Rattle.theory_lists.specs.Each.{mapAt, length-mapAt, getD-mapAt}
+use Rattle.theory_lists.specs.Test.{every, every-turn, every-end}
 use Rattle.frame.specs.Frame.{carriedOrZero}
 use Rattle.frame_write.proofs.rest_is_zero.Statement.{statement}
 use Rattle.frame_write.proofs.rest_is_zero.Tie as tie

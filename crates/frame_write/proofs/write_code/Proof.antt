@@ -6,8 +6,8 @@ use mathlib.Core.Path.{_≡_, sym, ap, _∙_}
 use mathlib.Core.List.{_∷_}
 use Prim.Native.Nat.{ℕ, _+_, _*_, _≤_}
 use borrow.Author.Tests.{not-true, not-false}
-use Rattle.lists.specs.Each.{mapAt}
-use Rattle.lists.specs.Test.{every}
+use Rattle.theory_lists.specs.Each.{mapAt}
+use Rattle.theory_lists.specs.Test.{every}
 use Rattle.frame.specs.Frame.{lengthOf, faultIn, wellFormed, carriedOrZero}
 use Rattle.frame.specs.Laws.{Faultless, faultless, carried-le, length-of, faulty, not-well-formed, no-room, can-write}
 use Rattle.frame_write.proofs.write_code.Statement.{statement}

@@ -51,8 +51,8 @@ use denote.Triple.Spec.{Meets, tripleOf}
 use denote.Triple.Statement.{Contract, Triple}
 use denote.Triple.Table.{entered, cited}
 use denote.Triple.Walked.{says, Stays, stay-ref, walkOf, AllGo, goes-ref, Walks, ends-at, walked, walk-meets}
-use Rattle.lists.specs.Each.{mapAt}
-use Rattle.lists.specs.Test.{every, mapAt-turn, mapAt-end}
+use Rattle.theory_lists.specs.Each.{mapAt}
+use Rattle.theory_lists.specs.Test.{every, mapAt-turn, mapAt-end}
 use Rattle.desk.specs.declared.Cell.{Cell}
 use Rattle.desk.specs.Desk.{pastEnd}
 use Rattle.desk.proofs.Cell as C

@@ -99,7 +99,7 @@ use Rattle.held.proofs.moved as f
 use Rattle.held.proofs.moved.Code as code
 use Rattle.held.proofs.moved.Key as key
 use Rattle.held.proofs.moved.Statement.{statement}
-use Rattle.lists.specs.Part.{getD-slice}
+use Rattle.theory_lists.specs.Part.{getD-slice}
 use Rattle.desk.specs.Desk.{pastEnd}
 
 abbrev R : RattleType

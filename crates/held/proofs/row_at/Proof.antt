@@ -55,7 +55,7 @@ use denote.Triple.Statement.{Contract, Triple}
 use denote.Triple.Table.{entered, cited}
 use denote.Triple.Walked.{says, needs, Stays, stay-ref, stay-none, walkOf, goes-ref, goes-none, Walks, ends-at, walked, walk-meets}
 use denote.Exit.{yes as kept}
-use Rattle.lists.specs.Part.{getD-slice}
+use Rattle.theory_lists.specs.Part.{getD-slice}
 use Rattle.desk.specs.declared.Cell.{Cell}
 use Rattle.desk.specs.Desk.{pastEnd}
 use Rattle.desk.proofs.Cell as C

@@ -2,7 +2,7 @@
 -- Assumes nothing.
 use borrow.Author.Needs.{needs}
 use mathlib.Core.Path.{sym, _∙_}
-use Rattle.lists.specs.Each.{length-mapped}
+use Rattle.theory_lists.specs.Each.{length-mapped}
 use Rattle.table.specs.Rows.{Sized}
 use Rattle.table.specs.Rules.{done, eventRule}
 use Rattle.table.specs.RuleLaws.{unless-refused}

@@ -8,7 +8,7 @@ use Prim.Native.Nat.{ℕ, _+_, _-_, _≤_}
 use lib.ListN.{length, set}
 use lib.Seq.{paste, paste-zero, paste-suc}
 use Rattle.desk.specs.Desk.{cellAt, pastEnd}
-use Rattle.lists.specs.Each.{length-mapped}
+use Rattle.theory_lists.specs.Each.{length-mapped}
 use Rattle.table.specs.declared.Done.{Done}
 use Rattle.table.specs.declared.Table.{Table}
 use Rattle.rows.proofs.put_at.Statement.{statement}

@@ -9,9 +9,9 @@ use lib.ListN.{length, getD, set, replicate}
 use lib.Seq.{slice, length-slice}
 use Rattle.desk.specs.declared.Cell.{Cell}
 use Rattle.desk.specs.Desk.{pastEnd, noCell}
-use Rattle.lists.specs.Each.{length-mapped}
-use Rattle.lists.specs.Part.{getD-slice}
-use Rattle.lists.specs.Replaced.{upTo, upTo-step, upTo-all}
+use Rattle.theory_lists.specs.Each.{length-mapped}
+use Rattle.theory_lists.specs.Part.{getD-slice}
+use Rattle.theory_lists.specs.Replaced.{upTo, upTo-step, upTo-all}
 use Rattle.rows.proofs.row_at.Statement.{statement}
 use Rattle.rows.proofs.row_at.Tie as tie
 

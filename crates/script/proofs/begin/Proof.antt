@@ -8,7 +8,7 @@ use lib.Dec.{ltb, leb}
 use borrow.Author.Tests.{ltb-true, leb-true}
 use mir.Syntax.{w32}
 use mir.Val.{Fits}
-use Rattle.lists.specs.Test.{both-left, both-right}
+use Rattle.theory_lists.specs.Test.{both-left, both-right}
 use Rattle.text.specs.OneLine.{length-line}
 use Rattle.text.specs.Walk.{cells-refused}
 use Rattle.table.specs.declared.SetUp.{SetUp}

@@ -9,7 +9,7 @@ use mathlib.Core.List.{List}
 use Prim.Native.Nat.{ℕ, _+_, _-_, _≤_, _<_}
 use lib.Dec.{leb, ltb}
 use lib.ListN.{length, drop, getD}
-use Rattle.lists.specs.Test.{every, some, every-turn, every-end, some-turn, some-end}
+use Rattle.theory_lists.specs.Test.{every, some, every-turn, every-end, some-turn, some-end}
 use Rattle.clock.specs.Clock.{isBefore, paired}
 use Rattle.clock.specs.Laws.{paired-at, length-paired}
 use Rattle.clock.proofs.Clock.before.Statement.{statement}

@@ -7,7 +7,7 @@ use mathlib.Core.Path.{_≡_, refl, ap₂, _∙_}
 use mathlib.Core.List.{List}
 use Prim.Native.Nat.{ℕ, _-_, _≤_, max}
 use lib.ListN.{length, set}
-use Rattle.lists.specs.Replaced.{upTo, upTo-step, upTo-all}
+use Rattle.theory_lists.specs.Replaced.{upTo, upTo-step, upTo-all}
 use Rattle.clock.specs.declared.Clock.{Clock}
 use Rattle.clock.specs.Clock.{number, merged, paired}
 use Rattle.clock.specs.Laws.{paired-at, length-paired}

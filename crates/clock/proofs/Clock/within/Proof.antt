@@ -6,8 +6,8 @@ use mathlib.Core.Path.{_≡_, refl, sym}
 use mathlib.Core.Bool.{_&&_}
 use Prim.Native.Nat.{_-_, _≤_}
 use lib.ListN.{length, drop}
-use Rattle.lists.specs.Each.{mapAt}
-use Rattle.lists.specs.Test.{every, mapAt-turn, mapAt-end}
+use Rattle.theory_lists.specs.Each.{mapAt}
+use Rattle.theory_lists.specs.Test.{every, mapAt-turn, mapAt-end}
 use Rattle.clock.specs.Clock.{zeroPast, isWithin}
 use Rattle.clock.proofs.Clock.within.Statement.{statement}
 use Rattle.clock.proofs.Clock.within.Tie as tie

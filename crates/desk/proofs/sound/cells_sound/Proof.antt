@@ -6,8 +6,8 @@ use mathlib.Core.Path.{_≡_, refl, sym}
 use mathlib.Core.Bool.{_&&_}
 use Prim.Native.Nat.{_-_, _≤_}
 use lib.ListN.{length, drop}
-use Rattle.lists.specs.Each.{mapAt, length-mapped}
-use Rattle.lists.specs.Test.{every, mapAt-turn, mapAt-end}
+use Rattle.theory_lists.specs.Each.{mapAt, length-mapped}
+use Rattle.theory_lists.specs.Test.{every, mapAt-turn, mapAt-end}
 use Rattle.desk.specs.Desk.{pastEnd, keeps}
 use Rattle.desk.specs.Sound.{cellSound, cellsSound}
 use Rattle.desk.proofs.sound.cells_sound.Statement.{statement}

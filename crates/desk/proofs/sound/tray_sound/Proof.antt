@@ -7,8 +7,8 @@ use mathlib.Core.Bool.{Bool, _&&_}
 use Prim.Native.Nat.{_-_, _≤_}
 use lib.ListN.{length, drop}
 use lib.Dec.{leb}
-use Rattle.lists.specs.Each.{mapAt}
-use Rattle.lists.specs.Test.{every, mapAt-turn, mapAt-end}
+use Rattle.theory_lists.specs.Each.{mapAt}
+use Rattle.theory_lists.specs.Test.{every, mapAt-turn, mapAt-end}
 use Rattle.desk.specs.declared.Tray.{Tray}
 use Rattle.desk.specs.Sound.{keeperSound, traySound}
 use Rattle.desk.proofs.sound.tray_sound.Statement.{statement}

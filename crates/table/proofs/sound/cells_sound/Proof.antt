@@ -7,8 +7,8 @@ use mathlib.Core.Bool.{_&&_}
 use Prim.Native.Nat.{_-_, _≤_}
 use lib.ListN.{length, drop}
 use Rattle.desk.specs.Desk.{pastEnd}
-use Rattle.lists.specs.Each.{mapAt, length-mapped}
-use Rattle.lists.specs.Test.{every, mapAt-turn, mapAt-end}
+use Rattle.theory_lists.specs.Each.{mapAt, length-mapped}
+use Rattle.theory_lists.specs.Test.{every, mapAt-turn, mapAt-end}
 use Rattle.table.specs.Scan.{cellFit, cellsFit}
 use Rattle.table.proofs.sound.cells_sound.Statement.{statement}
 use Rattle.table.proofs.sound.cells_sound.Tie as tie

@@ -7,8 +7,8 @@ use mathlib.Core.Bool.{Bool, _&&_}
 use Prim.Native.Nat.{ℕ, _-_, _≤_}
 use lib.ListN.{length, drop}
 use borrow.Author.Tests.{not-true, not-false}
-use Rattle.lists.specs.Each.{mapAt, length-mapped}
-use Rattle.lists.specs.Test.{every, mapAt-turn, mapAt-end}
+use Rattle.theory_lists.specs.Each.{mapAt, length-mapped}
+use Rattle.theory_lists.specs.Test.{every, mapAt-turn, mapAt-end}
 use Rattle.table.specs.Scan.{restAt, restsSound}
 use Rattle.table.specs.Table.{pastClock}
 use Rattle.desk.specs.SoundLaws.{tray-rule}

@@ -1,7 +1,7 @@
 -- `table::sound::sound` meets its contract: the walk over the cells and what stands beside them are the whole test.
 -- Assumes nothing.
 use borrow.Author.Needs.{needs}
-use Rattle.lists.specs.Each.{length-mapped}
+use Rattle.theory_lists.specs.Each.{length-mapped}
 use Rattle.table.specs.Rows.{Sized}
 use Rattle.table.specs.Scan.{parts-sound}
 use Rattle.table.proofs.sound.sound.Statement.{statement}

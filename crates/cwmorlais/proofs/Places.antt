@@ -1,0 +1,76 @@
+-- Where each field of what crosses to C and Rust lies, and each size: the numbers to which c/lent_test.c holds the header.
+-- Assumes nothing.
+use mathlib.Core.Path.{_≡_, refl}
+use mathlib.Core.List.{List, [], _∷_}
+use mathlib.Core.Option.{Option, none, some}
+use Prim.Native.Nat.{ℕ, zero, suc}
+use mir.Syntax.{Ty}
+use prog.Memory.{size, fieldOf}
+use Rattle.clock.proofs.Clock.Laws as Clock
+use Rattle.desk.proofs.Cell.Laws as Cell
+use Rattle.desk.proofs.Event.Laws as Event
+use Rattle.desk.proofs.Message.Laws as Message
+use Rattle.desk.proofs.Record.Laws as Record
+use Rattle.desk.proofs.Reply.Laws as Reply
+use Rattle.desk.proofs.Slot.Laws as Slot
+use Rattle.desk.proofs.Start.Laws as Start
+use Rattle.desk.proofs.Tray.Laws as Tray
+use Rattle.frame.proofs.Reading.Laws as Reading
+use Rattle.frame.proofs.Written.Laws as Written
+use Rattle.table.proofs.SetUp.Laws as SetUp
+use Rattle.table.proofs.Table.Laws as Table
+use Rattle.cwmorlais.proofs.Answer.Laws as Answer
+
+abbrev placeIn : Option (Ty × ℕ) → ℕ
+placeIn none = 0
+placeIn (some f) = f .1
+
+abbrev before : ℕ → Ty → List ℕ → List ℕ
+before zero τ rest = rest
+before (suc n) τ rest = before n τ (placeIn (fieldOf τ n) ∷ rest)
+
+-- the places of a struct's n fields, and its size
+abbrev places : ℕ → Ty → List ℕ
+places n τ = before n τ (size τ ∷ [])
+
+clock-places : places 1 Clock.mir ≡ 0 ∷ 32 ∷ []
+clock-places = refl
+
+cell-places : places 3 Cell.mir ≡ 0 ∷ 4 ∷ 8 ∷ 40 ∷ []
+cell-places = refl
+
+slot-places : places 4 Slot.mir ≡ 0 ∷ 1 ∷ 4 ∷ 8 ∷ 40 ∷ []
+slot-places = refl
+
+tray-places : places 3 Tray.mir ≡ 0 ∷ 1 ∷ 2 ∷ 34 ∷ []
+tray-places = refl
+
+record-places : places 6 Record.mir ≡ 0 ∷ 34 ∷ 36 ∷ 68 ∷ 1348 ∷ 1388 ∷ 1392 ∷ []
+record-places = refl
+
+event-places : places 4 Event.mir ≡ 0 ∷ 4 ∷ 8 ∷ 12 ∷ 16 ∷ []
+event-places = refl
+
+reply-places : places 3 Reply.mir ≡ 0 ∷ 4 ∷ 8 ∷ 12 ∷ []
+reply-places = refl
+
+message-places : places 6 Message.mir ≡ 0 ∷ 1 ∷ 2 ∷ 3 ∷ 4 ∷ 8 ∷ 40 ∷ []
+message-places = refl
+
+answer-places : places 2 Answer.mir ≡ 0 ∷ 12 ∷ 52 ∷ []
+answer-places = refl
+
+start-places : places 2 Start.mir ≡ 0 ∷ 4 ∷ 1396 ∷ []
+start-places = refl
+
+reading-places : places 3 Reading.mir ≡ 0 ∷ 4 ∷ 48 ∷ 56 ∷ []
+reading-places = refl
+
+written-places : places 2 Written.mir ≡ 0 ∷ 8 ∷ 16 ∷ []
+written-places = refl
+
+table-places : places 5 Table.mir ≡ 0 ∷ 36 ∷ 292 ∷ 612 ∷ 620 ∷ 10860 ∷ []
+table-places = refl
+
+set-up-places : places 2 SetUp.mir ≡ 0 ∷ 4 ∷ 10864 ∷ []
+set-up-places = refl

@@ -1,0 +1,116 @@
+// The library for Rust and C. A lent record is loaded, goes through a step by value, and is stored; a lent table is worked on where it lies.
+ghost use mathlib.Core.Path.{_≡_};
+ghost use Rattle.desk.specs.Rules.{eventRule, serveRule, bringRule};
+ghost use Rattle.desk.specs.Start.{startRule};
+ghost use Rattle.frame.specs.Frame.{readRule, writeRule, outputRule};
+ghost use Rattle.table.specs.Rules.{eventRule as tableRule};
+ghost use Rattle.table.specs.SetUp.{setUpRule};
+ghost use Rattle.cwmorlais.specs.Answers.{answerOf};
+use desk::Event;
+use desk::Message;
+use desk::Record;
+use desk::Reply;
+use desk::Start;
+use frame::Reading;
+use frame::Written;
+use refusing::refusal;
+use refusing::refused;
+use table::SetUp;
+use table::Table;
+
+// What a step gives beside the record, which goes back to the lender.
+#[repr(C)]
+pub struct Answer {
+    pub reply: Reply,
+    pub message: Message,
+}
+
+// A desk's fresh record. Keepers past the cell count are ignored.
+#[no_mangle]
+pub extern "C" fn cwmorlais_desk_start(
+    desks: u32,
+    cells: u32,
+    keepers: &[u32; 32],
+    desk: u32,
+) -> Start
+    ensures { λ r. ⌜ r ≡ startRule desks cells (now (keepers .entry)) desk ⌝ }
+{
+    desk_start::start(desks, cells, *keepers, desk)
+}
+
+// The desk's user wants something. With code 1 the message is the request, for the cell's keeper.
+#[no_mangle]
+pub extern "C" fn cwmorlais_desk_event(v: &mut Record, e: Event) -> Answer
+    ensures { λ r. ⌜ (r ≡ answerOf (eventRule (now (v .entry)) e)) × (now (v .exit) ≡ eventRule (now (v .entry)) e .after) ⌝ }
+{
+    let step = desk_event::event(*v, e);
+    *v = step.after;
+    Answer {
+        reply: step.reply,
+        message: step.message,
+    }
+}
+
+// A request came for a cell that this desk keeps. With code 0 the message is the answer, for the desk that asked.
+#[no_mangle]
+pub extern "C" fn cwmorlais_desk_serve(v: &mut Record, m: Message) -> Answer
+    ensures { λ r. ⌜ (r ≡ answerOf (serveRule (now (v .entry)) m)) × (now (v .exit) ≡ serveRule (now (v .entry)) m .after) ⌝ }
+{
+    let step = desk_serve::serve(*v, m);
+    *v = step.after;
+    Answer {
+        reply: step.reply,
+        message: step.message,
+    }
+}
+
+// The answer came to what this desk asked.
+#[no_mangle]
+pub extern "C" fn cwmorlais_desk_bring(v: &mut Record, m: Message) -> Answer
+    ensures { λ r. ⌜ (r ≡ answerOf (bringRule (now (v .entry)) m)) × (now (v .exit) ≡ bringRule (now (v .entry)) m .after) ⌝ }
+{
+    let step = desk_bring::bring(*v, m);
+    *v = step.after;
+    Answer {
+        reply: step.reply,
+        message: step.message,
+    }
+}
+
+// The message whose frame the bytes start with.
+#[no_mangle]
+pub extern "C" fn cwmorlais_frame_read(s: &[u8]) -> Reading
+    ensures { λ r. ⌜ r ≡ readRule (now (s .entry)) ⌝ }
+{
+    frame_read::read(s)
+}
+
+// The frame of a message, at the start of the output.
+#[no_mangle]
+pub extern "C" fn cwmorlais_frame_write(m: Message, out: &mut [u8]) -> Written
+    ensures { λ r. ⌜ r ≡ writeRule m (now (out .entry)) ⌝ }
+    ensures { λ r. ⌜ now (out .exit) ≡ outputRule m (now (out .entry)) ⌝ }
+{
+    frame_write::write(m, out)
+}
+
+// A fresh table. Keepers past the cell count are ignored.
+#[no_mangle]
+pub extern "C" fn cwmorlais_table_set_up(desks: u32, cells: u32, keepers: &[u32; 32]) -> SetUp
+    ensures { λ r. ⌜ r ≡ setUpRule desks cells (now (keepers .entry)) ⌝ }
+{
+    table_set_up::set_up(desks, cells, *keepers)
+}
+
+// One event on the lent table.
+#[no_mangle]
+pub extern "C" fn cwmorlais_table_event(t: &mut Table, e: Event) -> Reply
+    ensures { λ r. ⌜ (r ≡ tableRule (now (t .entry)) e .reply) × (now (t .exit) ≡ tableRule (now (t .entry)) e .after) ⌝ }
+{
+    let ok = held::sound(t);
+    let code = refusal(ok, t.tray, t.clocks, t.slots, e);
+    if code != 0 {
+        return refused(code);
+    }
+    held::moved(t, e)
+}

@@ -1,0 +1,65 @@
+-- `desk_start::keepers_right` meets its contract. The loop's invariant: the test so far, with what is left of the keepers.
+-- Assumes nothing.
+use borrow.Author.Needs.{needs}
+use native.Mathlib.Omega.{arith}
+use mathlib.Core.Path.{_≡_, refl, sym}
+use mathlib.Core.Bool.{_&&_}
+use Prim.Native.Nat.{_-_, _≤_}
+use lib.ListN.{length, drop}
+use Rattle.theory_lists.specs.Each.{mapAt}
+use Rattle.theory_lists.specs.Test.{every, mapAt-turn, mapAt-end}
+use Rattle.desk.specs.Start.{keeperRight, keepersRight}
+use Rattle.desk_start.proofs.keepers_right.Statement.{statement}
+use Rattle.desk_start.proofs.keepers_right.Tie as tie
+
+abbrev Inv-loop : tie.InvT-loop
+Inv-loop desks cells keepers count right₀ c₀ right c = (c ≤ 32)
+    × (every (mapAt (keeperRight desks cells) keepers) ≡ (right && every (drop c (mapAt (keeperRight desks cells) keepers))))
+
+abbrev μ-loop : tie.MeasureT-loop
+μ-loop desks cells keepers count right₀ c₀ right c = 32 - c
+
+loop-holds : tie.Need-loop-holds Inv-loop μ-loop
+loop-holds c = (search needs, refl)
+
+mul-right : tie.Need-mul-right Inv-loop μ-loop
+mul-right c = search needs
+
+array-read-right : tie.Need-array-read-right Inv-loop μ-loop
+array-read-right c = search needs
+
+add-c : tie.Need-add-c Inv-loop μ-loop
+add-c c = search needs
+
+loop-less : tie.Need-loop-less Inv-loop μ-loop
+loop-less c = search needs
+
+loop-again : tie.Need-loop-again Inv-loop μ-loop
+loop-again c =
+    let at-loop = c .before in
+    let a = at-loop .before .args in
+    let long : length (a .t3) ≡ 32 = search needs in
+    let turn = mapAt-turn (keeperRight (a .desks) (a .cells)) (a .t3) 0 (at-loop .loop .c) (at-loop .loop .right) in
+    (omega arith, turn (omega arith) (at-loop .loop .inv .1))
+
+returns : tie.Need-returns Inv-loop μ-loop
+unfolding keepersRight
+returns c =
+    let at-loop = c .before in
+    let a = at-loop .before .args in
+    let long : length (a .t3) ≡ 32 = search needs in
+    sym (mapAt-end (keeperRight (a .desks) (a .cells)) (a .t3) 0 (at-loop .loop .c) (at-loop .loop .right) (omega arith) (at-loop .loop .inv .1))
+
+pub keepers-right-spec : {M : Type 1} → statement M
+keepers-right-spec =
+    tie.close
+    (tie.spec
+    Inv-loop
+    μ-loop
+    loop-holds
+    mul-right
+    array-read-right
+    add-c
+    loop-less
+    loop-again
+    returns)

@@ -1,0 +1,93 @@
+-- The operations of a run of the table's rules, and where each read came from: what demand 3 speaks of, in the words of 01's paragraph
+-- "A read is finished when code 0 or 2 gives its word ...". No part of the table: it is told beside it.
+-- Assumes nothing.
+use mathlib.Core.Path.{_≡_}
+use mathlib.Core.Bool.{_&&_, _||_, cond}
+use mathlib.Core.List.{List, [], _∷_, _++_}
+use Prim.Native.Nat.{ℕ}
+use lib.Dec.{eqb}
+use lib.ListN.{length, getD}
+use Rattle.theory_causal.specs.Changed.{changed}
+use Rattle.theory_causal.specs.History.{Source, blank, from, Step, nothing, wrote, showed}
+use Rattle.desk.specs.declared.Event.{Event}
+use Rattle.desk.specs.declared.Reply.{Reply}
+use Rattle.table.specs.declared.Outcome.{Outcome}
+use Rattle.table.specs.declared.Table.{Table}
+use Rattle.table.specs.Table.{slotOf, keeperOf}
+
+-- Beside each desk: which write each held cell's word comes from, which one the answer in its slot, and the step at which it asked.
+pub record Trail : Type 0 where
+  pub source : (cell : ℕ) → Source
+  pub answer : Source
+  pub asked : ℕ
+
+abbrev pub holding : Trail → (cell : ℕ) → Source → Trail
+holding b c s = record { source = changed (b .source) c s; answer = b .answer; asked = b .asked }
+
+abbrev pub answered : Trail → Source → Trail
+answered b s = record { source = b .source; answer = s; asked = b .asked }
+
+abbrev pub waiting : Trail → (step : ℕ) → Trail
+waiting b n = record { source = b .source; answer = b .answer; asked = n }
+
+abbrev pub Trails : Type 0
+Trails = (desk : ℕ) → Trail
+
+-- What an event at step n adds to the history, and the trails after it, as its kind, its reply and the desk's slot before it tell.
+unfoldable pub entry : (n : ℕ) → Trails → Table → Event → Reply → Step × Trails
+entry n g t e r =
+    let p = e .desk in
+    let c = e .cell in
+    let s = slotOf t p in
+    let k = keeperOf t (s .cell) in
+    let finished = eqb (r .code) 0 || eqb (r .code) 2 in
+    -- a read of a held cell is finished
+    cond (eqb (e .kind) 1 && finished) (showed p c (r .value) (g p .source c) n, g)
+    -- a keeper stores its own write
+    (cond (eqb (e .kind) 2 && eqb (r .code) 0) (wrote p c (e .word) n, changed g p (holding (g p) c (from n)))
+    -- a read or a write is asked
+    (cond ((eqb (e .kind) 1 || eqb (e .kind) 2) && eqb (r .code) 1) (nothing, changed g p (waiting (g p) n))
+    -- a take: the keeper answers the desk's read, or stores the desk's write
+    (cond (eqb (e .kind) 3 && eqb (r .code) 0 && eqb (s .kind) 1) (nothing, changed g p (answered (g p) (g k .source (s .cell))))
+    (cond (eqb (e .kind) 3 && eqb (r .code) 0)
+    (wrote p (s .cell) (s .word) (g p .asked), changed (changed g k (holding (g k) (s .cell) (from n))) p (answered (g p) (from n)))
+    -- a bring: an asked read is finished, or the answer to a write has arrived
+    (cond (eqb (e .kind) 4 && finished) (
+      cond (eqb (s .kind) 3) (showed p (s .cell) (r .value) (g p .answer) (g p .asked)) nothing,
+      changed g p (holding (g p) (s .cell) (g p .answer)),
+    )
+    -- a drop, or a refusal
+    (nothing, g))))))
+
+-- A run so far: the table and the trails, and one step and one reply for each event.
+pub record Account : Type 0 where
+  pub table : Table
+  pub trails : Trails
+  pub history : List Step
+  pub replies : List Reply
+
+abbrev pub noReply : Reply
+noReply = record { code = 0; value = 0; count = 0 }
+
+abbrev pub repliedAt : Account → (step : ℕ) → Reply
+repliedAt a x = getD (a .replies) x noReply
+
+-- the reply gives this word: with code 2 if it is 0, else with code 0
+pub record Shows (r : Reply) (word : ℕ) : Type 0 where
+  pub value : r .value ≡ word
+  pub code : r .code ≡ cond (eqb word 0) 2 0
+
+-- before the first event no word comes from a write
+abbrev pub opened : Table → Account
+opened t = record { table = t; trails = λ p. record { source = λ c. blank; answer = blank; asked = 0 }; history = []; replies = [] }
+
+module _ (rule : Table → Event → Outcome) where
+  unfoldable pub next : Account → Event → Account
+  next a e =
+      let o = rule (a .table) e in
+      let m = entry (length (a .history)) (a .trails) (a .table) e (o .reply) in
+      record { table = o .after; trails = m .1; history = a .history ++ (m .0 ∷ []); replies = a .replies ++ (o .reply ∷ []) }
+
+  unfoldable pub run : Account → List Event → Account
+  run a [] = a
+  run a (e ∷ es) = run (next a e) es

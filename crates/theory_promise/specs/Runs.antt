@@ -1,0 +1,92 @@
+-- Every run of the table's rules, from any set-up that is not refused, is a run of the machine, and its replies give what its history says.
+-- Assumes nothing.
+use mathlib.Core.Path.{_≡_, refl, sym, ap, subst₂, _∙_}
+use mathlib.Core.List.{List, [], _∷_, _++_}
+use Prim.Native.Nat.{ℕ, zero, suc}
+use native.Mathlib.Decide.{decLt, ℕ-discrete}
+use native.Mathlib.Omega.{arith}
+use lib.ListN.{length, getD, length-append, List·getD-append, List·getD-eq-default}
+use lib.Seq.{getD-append-seam}
+use Rattle.theory_causal.specs.History.{quiet, read, Step, nothing, listed}
+use Rattle.theory_causal.specs.Machine as machine
+use Rattle.desk.specs.declared.Event.{Event}
+use Rattle.desk.specs.declared.Reply.{Reply}
+use Rattle.desk.specs.Start.{freshTray, setUpRefusal}
+use Rattle.table.specs.Fresh.{fresh-sized}
+use Rattle.table.specs.Rules.{eventRule}
+use Rattle.table.specs.SetUp.{freshTable, answerSetUp, setUpRule}
+use Rattle.theory_promise.specs.Link.{Tied, linked}
+use Rattle.theory_promise.specs.Operations.{entry, Account, noReply, repliedAt, opened, next, run}
+use Rattle.theory_promise.specs.Room.{Room}
+use Rattle.theory_promise.specs.Start.{start, fresh-clocks}
+use Rattle.theory_promise.specs.State.{state}
+
+-- what holds of a run so far
+pub record Runs (a : Account) : Type 0 where
+  pub room : Room (a .table)
+  pub runs : machine.Run (a .history) (state (a .table) (a .trails))
+  pub long : length (a .replies) ≡ length (a .history)
+  pub tied : (x : ℕ) → Tied (listed (a .history) x) (repliedAt a x)
+
+-- ---- one event more
+quiet-read : quiet ≡ read → ⊥
+quiet-read e = let z : _≡_ {A = ℕ} 0 1 = cc in omega arith
+
+seam : {A : Type 0} (l : List A) (a d : A) (x : ℕ) → x ≡ length l → getD (l ++ (a ∷ [])) x d ≡ a
+seam l a d x e = rw e (getD-append-seam l a [] d)
+
+abbrev reply : Account → Event → Reply
+reply a e = eventRule (a .table) e .reply
+
+abbrev step : Account → Event → Step
+step a e = entry (length (a .history)) (a .trails) (a .table) e (reply a e) .0
+
+module _ (h : List Step) (l : List Reply) (o : Step) (r : Reply) (d : Reply) (long : length l ≡ length h) where
+  tied-next : ((x : ℕ) → Tied (listed h x) (getD l x d)) → Tied o r → (x : ℕ) → Tied (listed (h ++ (o ∷ [])) x) (getD (l ++ (r ∷ [])) x d)
+  tied-next old new x =
+      elim (decLt x (length h)) [
+        | yes lt ↦ rw (List·getD-append h (o ∷ []) nothing x lt, List·getD-append l (r ∷ []) d x (omega arith)) (old x)
+        | no ge ↦ elim (ℕ-discrete x (length h)) [
+          | yes e ↦ (let f : x ≡ length l = omega arith in subst₂ Tied (sym (seam h o nothing x e)) (sym (seam l r d x f)) new)
+          | no ne ↦ (
+              let past = List·getD-eq-default (h ++ (o ∷ [])) nothing {n = x} (omega (arith, length-append h (o ∷ []))) in
+              λ k. absurd (quiet-read (ap (λ (s : Step). s .kind) (sym past) ∙ k)))
+        ]
+      ]
+
+runs-next : (a : Account) (e : Event) → Runs a → Runs (next eventRule a e)
+unfolding next
+runs-next a e r =
+    let k = linked (length (a .history)) (a .table) (a .trails) (r .room) e in
+    record {
+      room = k .moved .room;
+      runs = machine.next (r .runs) (k .moved .move);
+      long = omega (arith, r .long, length-append (a .replies) (reply a e ∷ []), length-append (a .history) (step a e ∷ []));
+      tied = tied-next (a .history) (a .replies) (step a e) (reply a e) noReply (r .long) (r .tied) (k .tied);
+    }
+
+pub runs-all : (a : Account) (events : List Event) → Runs a → Runs (run eventRule a events)
+unfolding run
+runs-all a [] r = r
+runs-all a (e ∷ es) r = runs-all (next eventRule a e) es (runs-next a e r)
+
+-- ---- from a set-up that is not refused
+module _ (desks cells : ℕ) (keepers : List ℕ) (long : length keepers ≡ 32) where
+  is-fresh : (n : ℕ) → answerSetUp n (freshTable (freshTray desks cells keepers)) .code ≡ 0
+      → answerSetUp n (freshTable (freshTray desks cells keepers)) .table ≡ freshTable (freshTray desks cells keepers)
+  unfolding answerSetUp
+  is-fresh zero e = refl
+  is-fresh (suc n) e = absurd (omega (arith, e))
+
+  runs-fresh : Runs (opened (freshTable (freshTray desks cells keepers)))
+  runs-fresh = record {
+    room = record { sized = fresh-sized desks cells keepers long; clocks = fresh-clocks (freshTray desks cells keepers) };
+    runs = machine.start (start (freshTray desks cells keepers));
+    long = refl;
+    tied = λ x k. absurd (quiet-read k);
+  }
+
+  pub runs-from : setUpRule desks cells keepers .code ≡ 0 → (events : List Event)
+      → Runs (run eventRule (opened (setUpRule desks cells keepers .table)) events)
+  unfolding setUpRule
+  runs-from e events = runs-all _ events (rw (is-fresh (setUpRefusal desks cells keepers) e) runs-fresh)
