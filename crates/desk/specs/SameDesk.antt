@@ -2,7 +2,7 @@
 -- names its request.
 -- Assumes nothing.
 use mathlib.Core.Path.{_≡_, refl, _∙_}
-use Prim.Native.Nat.{ℕ, _+_}
+use Prim.Native.Nat.{ℕ}
 use lib.Dec.{eqb}
 use lib.ListN.{length, length-set}
 use Rattle.clock.specs.declared.Clock.{Clock}
@@ -11,14 +11,21 @@ use Rattle.theory_lists.specs.Test.{whichever}
 use Rattle.desk.specs.declared.Event.{Event}
 use Rattle.desk.specs.declared.Message.{Message}
 use Rattle.desk.specs.declared.Record.{Record}
+use Rattle.desk.specs.declared.Seat.{Seat}
+use Rattle.desk.specs.declared.Slot.{Slot}
 use Rattle.desk.specs.declared.Step.{Step}
-use Rattle.desk.specs.Desk.{noCell, cellAt, keeps, leftAt, leftOf}
-use Rattle.desk.specs.Rules.{learns, holds, readRule, writeRule, dropRule, eventDone, readServed, takes, writeServed, serveDone, brings, bringDone}
+use Rattle.desk.specs.Desk.{Word, noCell, cellAt, keeps, leftAt, leftOf, answerKind}
+use Rattle.desk.specs.Rules.{withSeat, learns, holds, readRule, writeRule, dropRule, eventDone, readServed, takes, writeServed, serveDone}
+use Rattle.desk.specs.Rules.{brings, bringDone}
 
 pub record SameDesk (v u : Record) : Type 0 where
   pub same-tray : u .tray ≡ v .tray
   pub same-number : u .desk ≡ v .desk
   pub same-length : length (u .row) ≡ length (v .row)
+
+-- another seat in the record
+pub seat-same : (v : Record) (s : Seat) → SameDesk v (withSeat v s)
+seat-same v s = record { same-tray = refl; same-number = refl; same-length = refl }
 
 left-length : (v : Record) (x : Clock) → length (learns v x .row) ≡ length (v .row)
 unfolding leftOf
@@ -30,17 +37,14 @@ module _ (v : Record) where
 
   read-same : (c : ℕ) → Stays (readRule v c)
   unfolding readRule
-  read-same c =
-      whichever Stays (cellAt (v .row) c .held) _ _
-      (record { same-tray = refl; same-number = refl; same-length = refl })
-      (record { same-tray = refl; same-number = refl; same-length = refl })
+  read-same c = whichever Stays (cellAt (v .row) c .held) _ _ (seat-same v (v .seat)) (seat-same v _)
 
-  write-same : (c w : ℕ) → Stays (writeRule v c w)
+  write-same : (c : ℕ) (w : Word) → Stays (writeRule v c w)
   unfolding writeRule
   write-same c w =
       whichever Stays (keeps (v .tray) (v .desk) c) _ _
       (record { same-tray = refl; same-number = refl; same-length = length-set (v .row) c _ })
-      (record { same-tray = refl; same-number = refl; same-length = refl })
+      (seat-same v _)
 
   drop-same : (c : ℕ) → Stays (dropRule v c)
   unfolding dropRule
@@ -53,20 +57,22 @@ module _ (v : Record) where
       (whichever Stays (eqb (e .kind) 2) (writeRule v (e .cell) (e .word)) (dropRule v (e .cell))
       (write-same (e .cell) (e .word)) (drop-same (e .cell)))
 
-  pub serve-same : (m : Message) → SameDesk v (serveDone v m .after)
-  unfolding serveDone readServed writeServed takes
-  serve-same m =
-      whichever Stays (eqb (m .kind) 1) (readServed v m) (writeServed v m)
-      (record { same-tray = refl; same-number = refl; same-length = refl })
-      (record {
+  pub takes-same : (m : Message) → SameDesk v (takes v m)
+  unfolding takes
+  takes-same m =
+      record {
         same-tray = refl;
         same-number = refl;
         same-length = length-set (learns v (m .clock) .row) (m .cell) _ ∙ left-length v (m .clock);
-      })
+      }
 
-  pub bring-same : (m : Message) → SameDesk v (bringDone v m .after)
-  unfolding bringDone brings
-  bring-same m =
+  pub serve-same : (m : Message) → SameDesk v (serveDone v m .after)
+  unfolding serveDone readServed writeServed
+  serve-same m = whichever Stays (eqb (m .kind) 1) (readServed v m) (writeServed v m) (seat-same v (v .seat)) (takes-same m)
+
+  pub brings-same : (m : Message) → SameDesk v (brings v m)
+  unfolding brings
+  brings-same m =
       record {
         same-tray = refl;
         same-number = refl;
@@ -76,13 +82,17 @@ module _ (v : Record) where
             ∙ length-set (v .row) (m .cell) noCell;
       }
 
+  pub bring-same : (m : Message) → SameDesk v (bringDone v m .after)
+  unfolding bringDone
+  bring-same m = brings-same m
+
 -- ---- an answer
 pub record Answers (v : Record) (m : Message) (s : Step) : Type 0 where
-  pub answer-kind : s .message .kind ≡ m .kind + 2
+  pub answer-kind : s .message .kind ≡ answerKind (m .kind)
   pub answer-desks : s .message .desks ≡ m .desks
   pub answer-desk : s .message .desk ≡ m .desk
   pub answer-cell : s .message .cell ≡ m .cell
-  pub slot-stays : s .after .slot ≡ v .slot
+  pub slot-stays : s .after .seat .slot ≡ v .seat .slot
 
 pub serve-answers : (v : Record) (m : Message) → Answers v m (serveDone v m)
 unfolding serveDone readServed writeServed takes

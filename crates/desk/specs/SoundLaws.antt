@@ -3,107 +3,152 @@
 use mathlib.Core.Path.{_≡_, refl, ap}
 use mathlib.Core.Bool.{Bool, true, false, not, _&&_, _||_, or-true}
 use Prim.Native.Nat.{ℕ, _≤_, _<_, zero-le}
-use native.Mathlib.Decide.{decLe}
+use native.Mathlib.Decide.{decLe, decLt}
 use native.Mathlib.Omega.{arith}
-use borrow.Author.Tests.{ltb-true, leb-true, eqb-true, lt-ltb, le-leb, lt-leb, eq-eqb, not-true}
+use borrow.Author.Tests.{ltb-true, leb-true, eqb-true, lt-ltb, le-ltb, le-leb, lt-leb, eq-eqb, not-true}
 use lib.Dec.{ltb, eqb}
-use lib.ListN.{length, getD}
+use lib.ListN.{length}
+use Rattle.clock.specs.declared.Clock.{Clock}
 use Rattle.clock.specs.Clock.{isWithin}
 use Rattle.clock.specs.Laws.{ZeroPast, within-past, past-within}
 use Rattle.theory_lists.specs.Test.{fails, both, both-left, both-right, every-mapAt, mapAt-every}
 use Rattle.desk.specs.declared.Cell.{Cell}
+use Rattle.desk.specs.declared.Counts.{Counts}
 use Rattle.desk.specs.declared.Record.{Record}
+use Rattle.desk.specs.declared.Seat.{Seat}
 use Rattle.desk.specs.declared.Slot.{Slot}
 use Rattle.desk.specs.declared.Tray.{Tray}
-use Rattle.desk.specs.Desk.{pastEnd, cellAt, keeps, waits}
-use Rattle.desk.specs.Sound.{keeperSound, traySound, cellSound, cellsSound, slotNames, slotCarries, slotSound, rowSound, isSound}
-
--- ---- the tray
-pub record TrayRule (t : Tray) : Type 0 where
-  pub some-desk : 1 ≤ t .desks
-  pub desks-most : t .desks ≤ 8
-  pub some-cell : 1 ≤ t .cells
-  pub cells-most : t .cells ≤ 32
-  pub keeper-is : (c : ℕ) → c < length (t .keepers) → keeperSound t c (getD (t .keepers) c 0) ≡ true
-
-pub tray-rule : (t : Tray) → traySound t ≡ true → TrayRule t
-unfolding traySound
-tray-rule t e =
-    record {
-      some-desk = leb-true 1 (t .desks) (search (both-left, both-right));
-      desks-most = leb-true (t .desks) 8 (search (both-left, both-right));
-      some-cell = leb-true 1 (t .cells) (search (both-left, both-right));
-      cells-most = leb-true (t .cells) 32 (search (both-left, both-right));
-      keeper-is = every-mapAt (keeperSound t) (t .keepers) 0 (search (both-left, both-right));
-    }
-
-pub rule-tray : (t : Tray) → TrayRule t → traySound t ≡ true
-unfolding traySound
-rule-tray t r =
-    both
-    (both (both (le-leb 1 (t .desks) (r .some-desk)) (le-leb (t .desks) 8 (r .desks-most)))
-    (both (le-leb 1 (t .cells) (r .some-cell)) (le-leb (t .cells) 32 (r .cells-most))))
-    (mapAt-every (keeperSound t) (t .keepers) 0 (r .keeper-is))
-
-pub keeps-in : (t : Tray) (desk c : ℕ) → keeps t desk c ≡ true → c < t .cells
-unfolding keeps
-keeps-in t desk c e = ltb-true c (t .cells) (search both-left)
-
--- ---- a cell
-pub record CellRule (t : Tray) (desk c : ℕ) (x : Cell) : Type 0 where
-  pub in-range : x .held ≡ true → c < t .cells
-  pub keeper-holds : keeps t desk c ≡ true → x .held ≡ true
-  pub stamp-past : ZeroPast (t .desks) (x .stamp)
-  pub no-word : x .held ≡ false → x .word ≡ 0
-  pub no-stamp : x .held ≡ false → ZeroPast 0 (x .stamp)
+use Rattle.desk.specs.Desk.{Word, noWord, isNoWord, noPlace, pastCell, cellAt, placeAt, keeperOf, isUsed, keeps, waits}
+use Rattle.desk.specs.Sound.{countsSound, placeSound, traySound, cellFits, cellSound, slotNames, slotCarries, slotSound}
+use Rattle.desk.specs.Sound.{numbersOf, seatSound, cellsSound, isSound}
 
 pub no-way : {A : Type 0} (b : Bool) → b ≡ true → b ≡ false → A
 no-way b p q = let z : _≡_ {A = ℕ} 0 1 = cc in absurd (omega arith)
 
+-- ---- words
+pub no-word-is : (w : Word) → isNoWord w ≡ true → w ≡ noWord
+unfolding isNoWord
+no-word-is w = eqb-true w noWord
+
+pub is-no-word : (w : Word) → w ≡ noWord → isNoWord w ≡ true
+unfolding isNoWord
+is-no-word w = eq-eqb w noWord
+
+-- ---- the tray
+pub record TrayRule (t : Tray) : Type 0 where
+  pub some-desk : 1 ≤ t .counts .desks
+  pub desks-most : t .counts .desks ≤ 8
+  pub some-cell : 1 ≤ t .counts .cells
+  pub cells-most : t .counts .cells ≤ 32
+  pub place-is : (c : ℕ) → c < length (t .places) → placeSound (t .counts) c (placeAt t c) ≡ true
+
+pub tray-rule : (t : Tray) → traySound t ≡ true → TrayRule t
+unfolding traySound countsSound
+tray-rule t e =
+    record {
+      some-desk = leb-true 1 (t .counts .desks) (search (both-left, both-right));
+      desks-most = leb-true (t .counts .desks) 8 (search (both-left, both-right));
+      some-cell = leb-true 1 (t .counts .cells) (search (both-left, both-right));
+      cells-most = leb-true (t .counts .cells) 32 (search (both-left, both-right));
+      place-is = every-mapAt (placeSound (t .counts)) (t .places) noPlace (search (both-left, both-right));
+    }
+
+pub rule-tray : (t : Tray) → TrayRule t → traySound t ≡ true
+unfolding traySound countsSound
+rule-tray t r =
+    both
+    (both (both (le-leb 1 (t .counts .desks) (r .some-desk)) (le-leb (t .counts .desks) 8 (r .desks-most)))
+    (both (le-leb 1 (t .counts .cells) (r .some-cell)) (le-leb (t .counts .cells) 32 (r .cells-most))))
+    (mapAt-every (placeSound (t .counts)) (t .places) noPlace (r .place-is))
+
+-- ---- keepers
+module _ (t : Tray) (desk c : ℕ) where
+  pub keeps-in : keeps t desk c ≡ true → c < t .counts .cells
+  unfolding keeps
+  keeps-in e = ltb-true c (t .counts .cells) (search both-left)
+
+  pub is-keeper : keeps t desk c ≡ true → keeperOf t c ≡ desk
+  unfolding keeps
+  is-keeper e = eqb-true (keeperOf t c) desk (both-right (ltb c (t .counts .cells)) (eqb (keeperOf t c) desk) e)
+
+  pub keeper-keeps : keeperOf t c ≡ desk → c < t .counts .cells → keeps t desk c ≡ true
+  unfolding keeps
+  keeper-keeps k h = both (lt-ltb c (t .counts .cells) h) (eq-eqb (keeperOf t c) desk k)
+
+  pub no-keeper : keeps t desk c ≡ false → c < t .counts .cells → keeperOf t c ≡ desk → ⊥
+  no-keeper e h k = no-way (keeps t desk c) (keeper-keeps k h) e
+
+-- a cell's keeper is a desk
+pub keeper-desk : (t : Tray) (c : ℕ) → TrayRule t → length (t .places) ≡ 32 → c < t .counts .cells → keeperOf t c < t .counts .desks
+unfolding placeSound
+keeper-desk t c r long h =
+    ltb-true (keeperOf t c) (t .counts .desks) (rw (lt-ltb c (t .counts .cells) h) at (r .place-is c (omega (arith, r .cells-most))))
+
+-- ---- used entries
+abbrev pub Used : Counts → ℕ → ℕ → Type 0
+Used n desk c = (desk < n .desks) × (c < n .cells)
+
+pub used-is : (n : Counts) (desk c : ℕ) → isUsed n desk c ≡ true → Used n desk c
+used-is n desk c e = (
+  ltb-true desk (n .desks) (both-left (ltb desk (n .desks)) (ltb c (n .cells)) e),
+  ltb-true c (n .cells) (both-right (ltb desk (n .desks)) (ltb c (n .cells)) e),
+)
+
+pub is-used : (n : Counts) (desk c : ℕ) → Used n desk c → isUsed n desk c ≡ true
+is-used n desk c u = both (lt-ltb desk (n .desks) (u .0)) (lt-ltb c (n .cells) (u .1))
+
+-- ---- a cell
+pub record CellRule (t : Tray) (desk c : ℕ) (x : Cell) : Type 0 where
+  pub used : x .held ≡ true → Used (t .counts) desk c
+  pub keeper-holds : keeps t desk c ≡ true → x .held ≡ true
+  pub stamp-past : ZeroPast (t .counts .desks) (x .stamp)
+  pub no-word : x .held ≡ false → x .word ≡ noWord
+  pub no-stamp : x .held ≡ false → ZeroPast 0 (x .stamp)
+
 pub cell-rule : (t : Tray) (desk c : ℕ) (x : Cell) → cellSound t desk c x ≡ true → CellRule t desk c x
-unfolding cellSound
+unfolding cellSound cellFits keeps
 cell-rule t desk c x e = go (x .held) refl
   where
     go : (h : Bool) → x .held ≡ h → CellRule t desk c x
     go true p =
-        let held : (ltb c (t .cells) && isWithin (t .desks) (x .stamp)) ≡ true = rw p at e in
+        let held : (isUsed (t .counts) desk c && isWithin (t .counts .desks) (x .stamp)) ≡ true = rw p at e in
         record {
-          in-range = λ _. ltb-true c (t .cells) (search (both-left, both-right));
+          used = λ _. used-is (t .counts) desk c (search (both-left, both-right));
           keeper-holds = λ _. p;
-          stamp-past = within-past (t .desks) (x .stamp) (search (both-left, both-right));
+          stamp-past = within-past (t .counts .desks) (x .stamp) (search (both-left, both-right));
           no-word = λ q. no-way (x .held) p q;
           no-stamp = λ q. no-way (x .held) p q;
         }
     go false p =
-        let none : (not (keeps t desk c) && eqb (x .word) 0 && isWithin 0 (x .stamp)) ≡ true = rw p at e in
+        let none : (not (keeps t desk c) && isNoWord (x .word) && isWithin 0 (x .stamp)) ≡ true = rw p at e in
         let zeros : ZeroPast 0 (x .stamp) = within-past 0 (x .stamp) (search (both-left, both-right)) in
         record {
-          in-range = λ q. no-way (x .held) q p;
+          used = λ q. no-way (x .held) q p;
           keeper-holds = λ q. no-way (keeps t desk c) q (not-true (keeps t desk c) (search (both-left, both-right)));
           stamp-past = λ k _. zeros k zero-le;
-          no-word = λ _. eqb-true (x .word) 0 (search (both-left, both-right));
+          no-word = λ _. no-word-is (x .word) (search (both-left, both-right));
           no-stamp = λ _. zeros;
         }
 
 pub rule-cell : (t : Tray) (desk c : ℕ) (x : Cell) → CellRule t desk c x → cellSound t desk c x ≡ true
-unfolding cellSound
+unfolding cellSound cellFits keeps
 rule-cell t desk c x r = go (x .held) refl
   where
     go : (h : Bool) → x .held ≡ h → cellSound t desk c x ≡ true
-    go true p = rw p (both (lt-ltb c (t .cells) (r .in-range p)) (past-within (t .desks) (x .stamp) (r .stamp-past)))
+    go true p = rw p (both (is-used (t .counts) desk c (r .used p)) (past-within (t .counts .desks) (x .stamp) (r .stamp-past)))
     go false p =
         rw p
-        (both (both (ap not (fails (keeps t desk c) (λ q. no-way (x .held) (r .keeper-holds q) p))) (eq-eqb (x .word) 0 (r .no-word p)))
+        (both (both (ap not (fails (keeps t desk c) (λ q. no-way (x .held) (r .keeper-holds q) p))) (is-no-word (x .word) (r .no-word p)))
         (past-within 0 (x .stamp) (r .no-stamp p)))
 
 -- ---- a slot
 pub record SlotRule (t : Tray) (desk : ℕ) (s : Slot) : Type 0 where
   pub kind-most : s .kind ≤ 4
-  pub in-range : waits s ≡ true → s .cell < t .cells
+  pub used : waits s ≡ true → Used (t .counts) desk (s .cell)
   pub not-kept : waits s ≡ true → keeps t desk (s .cell) ≡ false
   pub no-cell : waits s ≡ false → s .cell ≡ 0
-  pub clock-past : ZeroPast (t .desks) (s .clock)
-  pub no-word : s .kind ≤ 1 → s .word ≡ 0
+  pub clock-past : ZeroPast (t .counts .desks) (s .clock)
+  pub no-word : s .kind ≤ 1 → s .word ≡ noWord
   pub no-clock : s .kind ≤ 1 → ZeroPast 0 (s .clock)
 
 pub slot-rule : (t : Tray) (desk : ℕ) (s : Slot) → slotSound t desk s ≡ true → SlotRule t desk s
@@ -111,89 +156,121 @@ unfolding slotSound slotNames slotCarries
 slot-rule t desk s e =
     record {
       kind-most = leb-true (s .kind) 4 (search (both-left, both-right));
-      in-range = λ w. ltb-true (s .cell) (t .cells) (both-left (ltb (s .cell) (t .cells)) (not (keeps t desk (s .cell))) (rw w at names));
-      not-kept = λ w. not-true (keeps t desk (s .cell)) (both-right (ltb (s .cell) (t .cells)) (not (keeps t desk (s .cell))) (rw w at names));
+      used = λ w. used-is (t .counts) desk (s .cell) (both-left (isUsed (t .counts) desk (s .cell)) (not (keeps t desk (s .cell))) (rw w at names));
+      not-kept =
+          λ w.
+          not-true (keeps t desk (s .cell)) (both-right (isUsed (t .counts) desk (s .cell)) (not (keeps t desk (s .cell))) (rw w at names));
       no-cell = λ w. eqb-true (s .cell) 0 (rw w at names);
-      clock-past = λ k h. elim (decLe (s .kind) 1) [ yes l ↦ no-clock l k zero-le | no l ↦ within-past (t .desks) (s .clock) (rw (lt-leb (s .kind) 1 (omega arith)) at carries) k h ];
-      no-word = λ l. eqb-true (s .word) 0 (both-left (eqb (s .word) 0) (isWithin 0 (s .clock)) (rw (le-leb (s .kind) 1 l) at carries));
+      clock-past =
+          λ k h.
+          elim (decLe (s .kind) 1) [
+            | yes l ↦ no-clock l k zero-le
+            | no l ↦ within-past (t .counts .desks) (s .clock) (rw (lt-leb (s .kind) 1 (omega arith)) at carries) k h
+          ];
+      no-word = λ l. no-word-is (s .word) (both-left (isNoWord (s .word)) (isWithin 0 (s .clock)) (rw (le-leb (s .kind) 1 l) at carries));
       no-clock = no-clock;
     }
   where
     names : slotNames t desk s ≡ true
     names = search (both-left, both-right)
 
-    carries : slotCarries t s ≡ true
+    carries : slotCarries (t .counts) s ≡ true
     carries = search (both-left, both-right)
 
     no-clock : s .kind ≤ 1 → ZeroPast 0 (s .clock)
-    no-clock l = within-past 0 (s .clock) (both-right (eqb (s .word) 0) (isWithin 0 (s .clock)) (rw (le-leb (s .kind) 1 l) at carries))
+    no-clock l = within-past 0 (s .clock) (both-right (isNoWord (s .word)) (isWithin 0 (s .clock)) (rw (le-leb (s .kind) 1 l) at carries))
 
 pub rule-slot : (t : Tray) (desk : ℕ) (s : Slot) → SlotRule t desk s → slotSound t desk s ≡ true
 unfolding slotSound slotNames slotCarries
 rule-slot t desk s r = both (both (le-leb (s .kind) 4 (r .kind-most)) (names (waits s) refl)) carries
   where
     names : (w : Bool) → waits s ≡ w → slotNames t desk s ≡ true
-    names true w = rw w (both (lt-ltb (s .cell) (t .cells) (r .in-range w)) (ap not (r .not-kept w)))
+    names true w = rw w (both (is-used (t .counts) desk (s .cell) (r .used w)) (ap not (r .not-kept w)))
     names false w = rw w (eq-eqb (s .cell) 0 (r .no-cell w))
 
-    carries : slotCarries t s ≡ true
+    carries : slotCarries (t .counts) s ≡ true
     carries =
         elim (decLe (s .kind) 1) [
-          | yes l ↦ rw (le-leb (s .kind) 1 l) (both (eq-eqb (s .word) 0 (r .no-word l)) (past-within 0 (s .clock) (r .no-clock l)))
-          | no l ↦ rw (lt-leb (s .kind) 1 (omega arith)) (past-within (t .desks) (s .clock) (r .clock-past))
+          | yes l ↦ rw (le-leb (s .kind) 1 l) (both (is-no-word (s .word) (r .no-word l)) (past-within 0 (s .clock) (r .no-clock l)))
+          | no l ↦ rw (lt-leb (s .kind) 1 (omega arith)) (past-within (t .counts .desks) (s .clock) (r .clock-past))
         ]
 
--- ---- a desk's row of the table, and its own record
-pub record RowRule (v : Record) : Type 0 where
-  pub desk-is : v .desk < v .tray .desks
-  pub clock-past : ZeroPast (v .tray .desks) (v .clock)
-  pub cell-is : (c : ℕ) → c < length (v .row) → CellRule (v .tray) (v .desk) c (cellAt (v .row) c)
-  pub slot-is : SlotRule (v .tray) (v .desk) (v .slot)
-  pub served-waits : v .served ≡ true → waits (v .slot) ≡ true
+-- ---- what a desk has beside its cells
+pub record SeatRule (t : Tray) (desk : ℕ) (s : Seat) : Type 0 where
+  pub numbers-past : ZeroPast (numbersOf (t .counts) desk) (s .clock)
+  pub slot-is : SlotRule t desk (s .slot)
+  pub served-waits : s .served ≡ true → waits (s .slot) ≡ true
 
-pub row-rule : (v : Record) → rowSound v ≡ true → RowRule v
-unfolding rowSound cellsSound
-row-rule v e =
+pub seat-rule : (t : Tray) (desk : ℕ) (s : Seat) → seatSound t desk s ≡ true → SeatRule t desk s
+unfolding seatSound
+seat-rule t desk s e =
     record {
-      desk-is = ltb-true (v .desk) (v .tray .desks) (search (both-left, both-right));
-      clock-past = within-past (v .tray .desks) (v .clock) (search (both-left, both-right));
-      cell-is = λ c h. cell-rule (v .tray) (v .desk) c (cellAt (v .row) c) (every-mapAt (cellSound (v .tray) (v .desk)) (v .row) pastEnd (search (both-left, both-right)) c h);
-      slot-is = slot-rule (v .tray) (v .desk) (v .slot) (search (both-left, both-right));
-      served-waits = λ on. or-not (waits (v .slot)) (v .served) on (search (both-left, both-right));
+      numbers-past = within-past (numbersOf (t .counts) desk) (s .clock) (search (both-left, both-right));
+      slot-is = slot-rule t desk (s .slot) (search (both-left, both-right));
+      served-waits = λ on. or-not (waits (s .slot)) (s .served) on (search (both-left, both-right));
     }
   where
     or-not : (a b : Bool) → b ≡ true → (a || not b) ≡ true → a ≡ true
     or-not true b p q = refl
     or-not false b p q = no-way b p (not-true b q)
 
-pub rule-row : (v : Record) → RowRule v → rowSound v ≡ true
-unfolding rowSound cellsSound
-rule-row v r =
+pub rule-seat : (t : Tray) (desk : ℕ) (s : Seat) → SeatRule t desk s → seatSound t desk s ≡ true
+unfolding seatSound
+rule-seat t desk s r =
     both
-    (both
-    (both (both (lt-ltb (v .desk) (v .tray .desks) (r .desk-is)) (past-within (v .tray .desks) (v .clock) (r .clock-past)))
-    (mapAt-every (cellSound (v .tray) (v .desk)) (v .row) pastEnd (λ c h. rule-cell (v .tray) (v .desk) c (cellAt (v .row) c) (r .cell-is c h))))
-    (rule-slot (v .tray) (v .desk) (v .slot) (r .slot-is)))
-    (served (v .served) refl)
+    (both (past-within (numbersOf (t .counts) desk) (s .clock) (r .numbers-past)) (rule-slot t desk (s .slot) (r .slot-is)))
+    (served (s .served) refl)
   where
-    served : (b : Bool) → v .served ≡ b → (waits (v .slot) || not (v .served)) ≡ true
+    served : (b : Bool) → s .served ≡ b → (waits (s .slot) || not (s .served)) ≡ true
     served true p = rw (r .served-waits p)
     served false p = rw (p, or-true)
 
+-- a desk that is there has a number for each desk; in any case none past the desk count
+module _ (n : Counts) (desk : ℕ) (k : Clock) where
+  pub all-numbers : desk < n .desks → ZeroPast (n .desks) k → ZeroPast (numbersOf n desk) k
+  all-numbers h p = rw (lt-ltb desk (n .desks) h) p
+
+  pub past-count : ZeroPast (numbersOf n desk) k → ZeroPast (n .desks) k
+  past-count p =
+      elim (decLt desk (n .desks)) [
+        | yes h ↦ rw (lt-ltb desk (n .desks) h) at p
+        | no h ↦ λ j l. (rw (le-ltb desk (n .desks) (omega arith)) at p) j zero-le
+      ]
+
+-- ---- a desk's row of the table, whose slot may be answered and whose desk may be absent; and a desk's own record
+pub record RowRule (v : Record) : Type 0 where
+  pub cell-is : (c : ℕ) → c < length (v .row) → CellRule (v .tray) (v .desk) c (cellAt (v .row) c)
+  pub seat-is : SeatRule (v .tray) (v .desk) (v .seat)
+
 pub record SoundRule (v : Record) : Type 0 where
   pub tray-is : TrayRule (v .tray)
+  pub desk-is : v .desk < v .tray .counts .desks
   pub row-is : RowRule v
-  pub asked : v .slot .kind ≤ 2
+  pub asked : v .seat .slot .kind ≤ 2
 
 pub sound-rule : (v : Record) → isSound v ≡ true → SoundRule v
-unfolding isSound
+unfolding isSound cellsSound
 sound-rule v e =
     record {
       tray-is = tray-rule (v .tray) (search (both-left, both-right));
-      row-is = row-rule v (search (both-left, both-right));
-      asked = leb-true (v .slot .kind) 2 (search (both-left, both-right));
+      desk-is = ltb-true (v .desk) (v .tray .counts .desks) (search (both-left, both-right));
+      row-is = record {
+        cell-is =
+            λ c h.
+            cell-rule (v .tray) (v .desk) c (cellAt (v .row) c)
+            (every-mapAt (cellSound (v .tray) (v .desk)) (v .row) pastCell (search (both-left, both-right)) c h);
+        seat-is = seat-rule (v .tray) (v .desk) (v .seat) (search (both-left, both-right));
+      };
+      asked = leb-true (v .seat .slot .kind) 2 (search (both-left, both-right));
     }
 
 pub rule-sound : (v : Record) → SoundRule v → isSound v ≡ true
-unfolding isSound
-rule-sound v r = both (both (rule-tray (v .tray) (r .tray-is)) (rule-row v (r .row-is))) (le-leb (v .slot .kind) 2 (r .asked))
+unfolding isSound cellsSound
+rule-sound v r =
+    both
+    (both
+    (both (both (rule-tray (v .tray) (r .tray-is)) (lt-ltb (v .desk) (v .tray .counts .desks) (r .desk-is)))
+    (mapAt-every (cellSound (v .tray) (v .desk)) (v .row) pastCell
+    (λ c h. rule-cell (v .tray) (v .desk) c (cellAt (v .row) c) (r .row-is .cell-is c h))))
+    (rule-seat (v .tray) (v .desk) (v .seat) (r .row-is .seat-is)))
+    (le-leb (v .seat .slot .kind) 2 (r .asked))

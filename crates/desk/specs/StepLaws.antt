@@ -2,16 +2,17 @@
 -- slot and its message say the same.
 -- Assumes nothing.
 use mathlib.Core.Path.{_≡_, refl, ap}
-use mathlib.Core.Bool.{Bool, true, false, not, _&&_, _||_, cond, and-not-self}
+use mathlib.Core.Bool.{Bool, true, false, not, _&&_, cond, and-not-self}
 use mathlib.Core.List.{List}
-use Prim.Native.Nat.{ℕ, zero, suc}
+use mathlib.Core.Logic.{⊎-elim}
+use Prim.Native.Nat.{ℕ}
 use native.Mathlib.Omega.{arith}
-use lib.Dec.{eqb, ltb}
+use lib.Dec.{eqb}
 use Rattle.clock.specs.declared.Clock.{Clock}
-use Rattle.clock.specs.Clock.{number, raised}
 use Rattle.theory_lists.specs.Each.{mapAt, mapAt-same, getD-mapAt}
 use Rattle.theory_lists.specs.Sum.{sum}
 use Rattle.theory_lists.specs.Test.{both-left, whichever}
+use Rattle.theory_refusals.specs.Refusals.{numbersFrom, first-from, unless-refused, unless-either}
 use Rattle.desk.specs.declared.Cell.{Cell}
 use Rattle.desk.specs.declared.Event.{Event}
 use Rattle.desk.specs.declared.Message.{Message}
@@ -19,23 +20,23 @@ use Rattle.desk.specs.declared.Record.{Record}
 use Rattle.desk.specs.declared.Slot.{Slot}
 use Rattle.desk.specs.declared.Step.{Step}
 use Rattle.desk.specs.declared.Tray.{Tray}
-use Rattle.desk.specs.Desk.{noCell, noMessage, pastEnd, cellAt, oneIf, keeps, isCopy, isBlank, isLost, leftAt, lossAt, leftOf, lossOf, waits}
-use Rattle.desk.specs.RuleLaws.{unless-refused}
-use Rattle.desk.specs.Rules.{slotMessage, holds, withClock, stores, readAsked, writeAsked, replied, shownCode, unless, asks, readRule, writeRule, dropRule, eventRefusal, eventDone, eventRule, serveRefusal, serveRule, serveDone, bringRefusal, bringRule, bringDone}
-use Rattle.desk.specs.Sound.{isSound}
+use Rattle.desk.specs.Desk.{Word, isBlank, noCell, noMessage, pastCell, cellAt, oneIf, keeps, isCopy, isLost, leftAt, lossAt, leftOf, lossOf}
+use Rattle.desk.specs.Rules.{slotMessage, holds, withClock, withSeat, stores, readAsked, writeAsked, replied, refused, shownCode, asks}
+use Rattle.desk.specs.Rules.{readRule, nextClock, writeRule, dropRule, seatLines, eventLines, eventRefusal, eventDone, eventRule}
+use Rattle.desk.specs.Rules.{serveRefusal, serveRule, serveDone, bringRefusal, bringRule, bringDone}
 
 -- ---- a refusal gives its number and changes nothing
-pub event-refused : (v : Record) (e : Event) → (eventRefusal v e ≡ 0 → ⊥) → eventRule v e ≡ replied (eventRefusal v e) 0 0 noMessage v
+pub event-refused : (v : Record) (e : Event) → (eventRefusal v e ≡ 0 → ⊥) → eventRule v e ≡ refused v (eventRefusal v e)
 unfolding eventRule
-event-refused v e = unless-refused (eventRefusal v e) v (eventDone v e)
+event-refused v e = unless-refused (eventRefusal v e) (refused v) (eventDone v e)
 
-pub serve-refused : (v : Record) (m : Message) → (serveRefusal v m ≡ 0 → ⊥) → serveRule v m ≡ replied (serveRefusal v m) 0 0 noMessage v
+pub serve-refused : (v : Record) (m : Message) → (serveRefusal v m ≡ 0 → ⊥) → serveRule v m ≡ refused v (serveRefusal v m)
 unfolding serveRule
-serve-refused v m = unless-refused (serveRefusal v m) v (serveDone v m)
+serve-refused v m = unless-refused (serveRefusal v m) (refused v) (serveDone v m)
 
-pub bring-refused : (v : Record) (m : Message) → (bringRefusal v m ≡ 0 → ⊥) → bringRule v m ≡ replied (bringRefusal v m) 0 0 noMessage v
+pub bring-refused : (v : Record) (m : Message) → (bringRefusal v m ≡ 0 → ⊥) → bringRule v m ≡ refused v (bringRefusal v m)
 unfolding bringRule
-bring-refused v m = unless-refused (bringRefusal v m) v (bringDone v m)
+bring-refused v m = unless-refused (bringRefusal v m) (refused v) (bringDone v m)
 
 -- ---- the count of drops
 -- a copy before and none after, at cell c
@@ -54,8 +55,8 @@ pub losses-counted : (t : Tray) (desk : ℕ) (x : Clock) (row : List Cell) → l
 unfolding lossOf givenUp leftOf isCopy
 losses-counted t desk x row =
     ap sum
-    (mapAt-same (lossAt t desk x) (givenUpAt t desk (mapAt (leftAt t desk x) row)) row pastEnd
-    (λ c h. rw (getD-mapAt (leftAt t desk x) row c pastEnd pastEnd h) (at c (cellAt row c))))
+    (mapAt-same (lossAt t desk x) (givenUpAt t desk (mapAt (leftAt t desk x) row)) row pastCell
+    (λ c h. rw (getD-mapAt (leftAt t desk x) row c pastCell pastCell h) (at c (cellAt row c))))
   where
     at : (c : ℕ) (y : Cell) → lossAt t desk x c y ≡ oneIf (isCopy t desk c y && not (isCopy t desk c (leftAt t desk x c y)))
     at c y = go (isLost t desk x c y) refl
@@ -67,7 +68,7 @@ losses-counted t desk x row =
 -- ---- a full slot and its message
 -- code 1 comes with the request that the slot says; every other code with the all-zero message
 pub record Told (s : Step) : Type 0 where
-  pub asked : s .reply .code ≡ 1 → s .message ≡ slotMessage (s .after) (s .after .slot)
+  pub asked : s .reply .code ≡ 1 → s .message ≡ slotMessage (s .after) (s .after .seat .slot)
   pub quiet : (s .reply .code ≡ 1 → ⊥) → s .message ≡ noMessage
 
 quiet-told : (code value count : ℕ) (v : Record) → (code ≡ 1 → ⊥) → Told (replied code value count noMessage v)
@@ -79,11 +80,6 @@ asks-told v s = record { asked = λ _. refl; quiet = λ ne. absurd (ne refl) }
 neither : (b : Bool) (n m : ℕ) → (n ≡ 1 → ⊥) → (m ≡ 1 → ⊥) → cond b n m ≡ 1 → ⊥
 neither true n m p q = p
 neither false n m p q = q
-
-unless-told : (n : ℕ) (v : Record) (s : Step) → (n ≡ 1 → ⊥) → Told s → Told (unless n v s)
-unfolding unless
-unless-told zero v s ne p = p
-unless-told (suc n) v s ne p = quiet-told (suc n) 0 0 v ne
 
 read-told : (v : Record) (c : ℕ) → Told (readRule v c)
 unfolding readRule
@@ -97,34 +93,21 @@ read-told v c =
 write-told : (v : Record) (c w : ℕ) → Told (writeRule v c w)
 unfolding writeRule
 write-told v c w =
-    let next = raised (v .clock) (v .desk) in
-    whichever Told (keeps (v .tray) (v .desk) c) (replied 0 w 0 noMessage (stores (withClock v next) c w)) (asks v (writeAsked c w next))
-    (quiet-told 0 w 0 (stores (withClock v next) c w) (omega arith))
-    (asks-told v (writeAsked c w next))
+    let stored = stores (withSeat v (withClock (v .seat) (nextClock v))) c w in
+    whichever Told (keeps (v .tray) (v .desk) c) (replied 0 w 0 noMessage stored) (asks v (writeAsked c w (nextClock v)))
+    (quiet-told 0 w 0 stored (omega arith))
+    (asks-told v (writeAsked c w (nextClock v)))
 
 drop-told : (v : Record) (c : ℕ) → Told (dropRule v c)
 unfolding dropRule
 drop-told v c = quiet-told 0 0 (oneIf (isCopy (v .tray) (v .desk) c (cellAt (v .row) c))) (holds v c noCell) (omega arith)
 
--- no refusal of an event is code 1
-not-one : (a b c d e f : Bool) → _≡_ {A = ℕ} (cond a 9 (cond b 8 (cond c 11 (cond d 12 (cond e 14 (cond f 16 0)))))) 1 → ⊥
-not-one true b c d e f = omega arith
-not-one false true c d e f = omega arith
-not-one false false true d e f = omega arith
-not-one false false false true e f = omega arith
-not-one false false false false true f = omega arith
-not-one false false false false false true = omega arith
-not-one false false false false false false = omega arith
-
 pub event-told : (v : Record) (e : Event) → Told (eventRule v e)
-unfolding eventRule eventRefusal eventDone
+unfolding eventRule eventRefusal eventLines seatLines eventDone numbersFrom
 event-told v e =
-    unless-told (eventRefusal v e) v (eventDone v e) no-code
-    (whichever Told (eqb (e .kind) 1) (readRule v (e .cell)) (cond (eqb (e .kind) 2) (writeRule v (e .cell) (e .word)) (dropRule v (e .cell)))
+    unless-either (eventRefusal v e) (refused v) (eventDone v e) Told
+    (λ some. quiet-told (eventRefusal v e) 0 0 v (λ one. ⊎-elim (λ none. some none) (λ large. omega arith) (first-from 3 (eventLines v e) refl)))
+    (λ none.
+    whichever Told (eqb (e .kind) 1) (readRule v (e .cell)) (cond (eqb (e .kind) 2) (writeRule v (e .cell) (e .word)) (dropRule v (e .cell)))
     (read-told v (e .cell))
     (whichever Told (eqb (e .kind) 2) (writeRule v (e .cell) (e .word)) (dropRule v (e .cell)) (write-told v (e .cell) (e .word)) (drop-told v (e .cell))))
-  where
-    no-code : eventRefusal v e ≡ 1 → ⊥
-    no-code =
-        not-one (not (isSound v)) (not (eqb (e .kind) 1 || eqb (e .kind) 2 || eqb (e .kind) 5)) (not (ltb (e .cell) (v .tray .cells))) (waits (v .slot))
-        (eqb (e .kind) 5 && keeps (v .tray) (v .desk) (e .cell)) (eqb (e .kind) 2 && eqb (number (v .clock) (v .desk)) 4294967295)

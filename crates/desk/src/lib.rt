@@ -39,20 +39,52 @@ impl Slot {
     };
 }
 
-// The tray as it was set up: how many desks and cells, and each cell's keeper.
+// What a desk has beside its cells. *served*: it served a write while it waited.
 #[repr(C)]
-pub struct Tray {
+pub struct Seat {
+    pub clock: Clock,
+    pub slot: Slot,
+    pub served: bool,
+}
+
+impl Seat {
+    // A fresh desk's, and an absent one's: all zero.
+    pub const NONE: Seat = Seat {
+        clock: Clock::ZERO,
+        slot: Slot::NONE,
+        served: false,
+    };
+}
+
+// A cell's place in the tray: who keeps it.
+#[repr(C)]
+pub struct Place {
+    pub keeper: u8,
+}
+
+impl Place {
+    // What stands past the cell count.
+    pub const NONE: Place = Place { keeper: 0 };
+}
+
+#[repr(C)]
+pub struct Counts {
     pub desks: u8,
     pub cells: u8,
-    pub keepers: [u8; 32],
+}
+
+// The tray as it was set up.
+#[repr(C)]
+pub struct Tray {
+    pub counts: Counts,
+    pub places: [Place; 32],
 }
 
 impl Tray {
     // What a refusal to set up gives: all zero.
     pub const NONE: Tray = Tray {
-        desks: 0,
-        cells: 0,
-        keepers: [0; 32],
+        counts: Counts { desks: 0, cells: 0 },
+        places: [Place::NONE; 32],
     };
 }
 
@@ -61,10 +93,8 @@ impl Tray {
 pub struct Record {
     pub tray: Tray,
     pub desk: u8,
-    pub clock: Clock,
+    pub seat: Seat,
     pub row: [Cell; 32],
-    pub slot: Slot,
-    pub served: bool,
 }
 
 impl Record {
@@ -72,10 +102,8 @@ impl Record {
     pub const NONE: Record = Record {
         tray: Tray::NONE,
         desk: 0,
-        clock: Clock::ZERO,
+        seat: Seat::NONE,
         row: [Cell::NONE; 32],
-        slot: Slot::NONE,
-        served: false,
     };
 }
 
@@ -125,9 +153,17 @@ pub struct Step {
     pub after: Record,
 }
 
+// All that set-up and start are told. Any number may stand anywhere; keepers past the cell count are ignored.
+#[repr(C)]
+pub struct Plan {
+    pub desks: u32,
+    pub cells: u32,
+    pub keepers: [u32; 32],
+}
+
 // What starting gives: code 0 and the desk's fresh record, or a refusal and an all-zero one.
 #[repr(C)]
-pub struct Start {
+pub struct Started {
     pub code: u32,
     pub record: Record,
 }

@@ -44,6 +44,12 @@ none-applies ((number, false) ∷ ls) from e n =
     whichever (λ (b : Bool). b ≡ false) (eqb n number) false (testOf n ls) refl
     (none-applies ls (both-right (leb 1 number) (numbersFrom 1 ls) from) e n)
 
+-- and none of those after the first does
+pub none-after : (l : Line) (ls : List Line) → numbersFrom 1 (l ∷ ls) ≡ true → firstOf (l ∷ ls) ≡ 0 → firstOf ls ≡ 0
+unfolding firstOf numbersFrom
+none-after (number, true) ls from e = absurd (omega (arith, leb-true 1 number (both-left (leb 1 number) (numbersFrom 1 ls) from)))
+none-after (number, false) ls from e = e
+
 -- a refusal is none of the codes of what is done
 pub first-from : (k : ℕ) (ls : List Line) → numbersFrom k ls ≡ true → (firstOf ls ≡ 0) ⊎ (k ≤ firstOf ls)
 unfolding firstOf numbersFrom

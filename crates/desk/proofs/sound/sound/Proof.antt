@@ -1,4 +1,4 @@
--- `desk::sound::sound` meets its contract: a sound tray has at most 32 cells, so the row can be looked at.
+-- `desk::sound::sound` meets its contract.
 -- Assumes nothing.
 use borrow.Author.Needs.{needs}
 use mathlib.Core.Path.{sym, _∙_}
@@ -13,14 +13,39 @@ tray-sound-requires c κs = search needs
 
 returns : tie.Need-returns
 unfolding isSound
-returns c = rw (← c .before .tray-sound .ensures, not-true (c .before .tray-sound .result) (c .if1 .taken))
+returns c = rw (
+  ← c .before .tray-sound .ensures,
+  not-true
+      (c .before .tray-sound .result)
+      (c .if1 .taken),
+)
 
-row-sound-requires : tie.Need-row-sound-requires
-row-sound-requires c κs = tray-rule (c .before .before .args .v .tray) (sym (c .before .tray-sound .ensures) ∙ not-false (c .before .tray-sound .result) (c .if1 .left)) .cells-most
+cells-sound-requires : tie.Need-cells-sound-requires
+cells-sound-requires c κs = search needs
+
+seat-sound-requires : tie.Need-seat-sound-requires
+seat-sound-requires c κs =
+    tray-rule
+    (c .before .before .before .before .before .before .before .args .v .tray)
+    (sym
+    (c .before .before .before .before .tray-sound .ensures)
+    ∙ not-false
+    (c .before .before .before .before .tray-sound .result)
+    (c .before .before .before .if1 .left)) .cells-most
 
 returns-2 : tie.Need-returns-2
 unfolding isSound
-returns-2 c = rw (← c .before .before .before .tray-sound .ensures, not-false (c .before .before .before .tray-sound .result) (c .before .before .if1 .left), ← c .before .row-sound .ensures)
+returns-2 c =
+    rw (
+      ← c .before .before .before .before .before .before .tray-sound .ensures,
+      not-false
+          (c .before .before .before .before .before .before .tray-sound .result)
+          (c .before .before .before .before .before .if1 .left),
+      c .before .seat-sound .ensures,
+      c .before .before .cells-sound .ensures,
+    )
 
 pub sound-spec : {M : Type 1} → statement M
-sound-spec = tie.close (tie.spec tray-sound-requires returns row-sound-requires returns-2)
+sound-spec =
+    tie.close
+    (tie.spec tray-sound-requires returns cells-sound-requires seat-sound-requires returns-2)
