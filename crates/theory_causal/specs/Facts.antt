@@ -4,7 +4,7 @@ use mathlib.Core.Path.{_≡_}
 use Prim.Native.Nat.{ℕ, _≤_, _<_}
 use native.Mathlib.Omega.{arith}
 use native.Mathlib.Decide.{decLt, ℕ-discrete}
-use Rattle.theory_causal.specs.History.{write, read, Source, blank, from, History, Operation, Writes, wordOf}
+use Rattle.theory_causal.specs.History.{Words, write, read, Source, blank, from, History, Operation, Writes, wordOf}
 
 abbrev pub Clock : Type 0
 Clock = ℕ → ℕ
@@ -17,7 +17,7 @@ abbrev pub zeros : Clock
 zeros j = 0
 
 -- a step that writes or reads is an operation
-module _ (H : History) {x : ℕ} where
+module _ {W : Words} (H : History W) {x : ℕ} where
   pub writing : H x .kind ≡ write → Operation H x
   writing e q = let z : _≡_ {A = ℕ} 0 1 = cc in omega arith
 
@@ -25,7 +25,7 @@ module _ (H : History) {x : ℕ} where
   reading e q = let z : _≡_ {A = ℕ} 0 1 = cc in omega arith
 
 -- `know x` is the clock of operation x: a write's stamp, or what its desk's operations have seen up to and with a read.
-module _ (H : History) (know : ℕ → Clock) where
+module _ {W : Words} (H : History W) (know : ℕ → Clock) where
   -- a clock knows a write if it has the write's number, which stands in the write's clock at the writer's place
   abbrev pub Knows : Clock → ℕ → Type 0
   Knows a w = know w (H w .desk) ≤ a (H w .desk)

@@ -7,7 +7,7 @@ use Prim.Native.Nat.{ℕ, zero, suc, _+_, _*_, _≤_, _<_}
 use native.Mathlib.Nat.{eq-or-lt-of-le, le-of-suc-le-suc, le-trans, mul-le-mul-right}
 use native.Mathlib.Omega.{arith}
 use native.Mathlib.Decide.{decLe, decLt, ℕ-discrete}
-use Rattle.theory_causal.specs.History.{Kind, quiet, write, read, Kind-discrete, Source, blank, from, History, Operation, Writes}
+use Rattle.theory_causal.specs.History.{Words, Kind, quiet, write, read, Kind-discrete, Source, blank, from, History, Operation, Writes}
 use Rattle.theory_causal.specs.History.{ReadBy, Causal, same-desk, shown, chain}
 use Rattle.theory_causal.specs.Demand.{Before, View, Nearest, Explains, InTurn, Order}
 use Rattle.theory_causal.specs.Ranking.{inOrder, listed-before, listed-order}
@@ -46,7 +46,7 @@ first {P} test (suc n) = go (first test n) (test n)
         ]
 
 -- n is past every operation
-module _ (H : History) (know : ℕ → Clock) (n : ℕ)
+module _ {W : Words} (H : History W) (know : ℕ → Clock) (n : ℕ)
     (ends : (x : ℕ) → Operation H x → x < n)
     (told : (x : ℕ) → Operation H x → Told H know x) where
   -- ---- causal order goes up in time and in knowledge
