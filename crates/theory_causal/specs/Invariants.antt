@@ -32,14 +32,14 @@ module _ {W : Words} (M : Moment W) where
 
   -- word and stamp are those of the source
   pub record Genuine (c : ℕ) (g : Held W) : Type 0 where
-    pub stored : Stored H know t c (g .source)
-    pub stamp : g .stamp ≡ stampOf H know (g .source)
+    pub stored : Stored H t c (g .source)
+    pub stamp : g .stamp ≡ stampOf know (g .source)
     pub word : g .word ≡ wordOf H (g .source)
 
   -- I2: what stands last in a cell
   pub record Last (c : ℕ) (g : Held W) : Type 0 where
     pub genuine : Genuine c g
-    pub top : (w : ℕ) → w < t → Writes H c w → After H know (g .source) w → ⊥
+    pub top : (w : ℕ) → w < t → Writes H c w → After (g .source) w → ⊥
 
   -- I3: a held cell is fresh for its desk's clock
   pub record Copy (a : Clock) (c : ℕ) (g : Held W) : Type 0 where

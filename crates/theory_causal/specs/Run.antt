@@ -16,6 +16,7 @@ use Rattle.theory_causal.specs.Machine.{Held, State, unwritten, Start, R
 use Rattle.theory_causal.specs.Invariants.{Moment, Genuine, Good, Level, Slotted, Fine, Inv}
 use Rattle.theory_causal.specs.Invariants.Passing.{taught}
 use Rattle.theory_causal.specs.Invariants.Moves.{keeps}
+pub mod Sources
 
 -- ---- the ghost: what each desk's own operations know, and the clock of each operation
 own : {W : Words} {h : List (Step W)} {S : State W} → Run h S → ℕ → Clock
@@ -84,6 +85,12 @@ inv (next {h = h} {S' = S'} {o = o} {a = a} r m) H K agree same =
     (same (length h) now ∙ changed-here (know r) (length h) new))
 
 module _ {W : Words} {h : List (Step W)} {S : State W} (r : Run h S) where
+  abbrev now : Moment W
+  now = record { history = listed h; know = know r; now = length h; own = own r }
+
+  invariants : Inv now S
+  invariants = inv r (listed h) (know r) (λ x lt. refl) (λ x lt. refl)
+
   ends : (x : ℕ) → Operation (listed h) x → x < length h
   ends x o =
       elim (decLt x (length h)) [
@@ -93,6 +100,4 @@ module _ {W : Words} {h : List (Step W)} {S : State W} (r : Run h S) where
 
   -- Demand 3, with each cell's writes in the order stored (T-08).
   pub demand-3 : (p : ℕ) → (l : List ℕ) × Order (listed h) p l × InTurn (listed h) (λ v w. Before v w l)
-  demand-3 =
-      ordered (listed h) (know r) (length h) ends
-      (λ x o. inv r (listed h) (know r) (λ x lt. refl) (λ x lt. refl) .told x (ends x o) o)
+  demand-3 = ordered (listed h) (know r) (length h) ends (λ x o. invariants .told x (ends x o) o)

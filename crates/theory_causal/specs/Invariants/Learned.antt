@@ -84,7 +84,7 @@ module _ {W : Words} {M : Moment W} {S : State W} (I : Inv M S) where
   good-zeros : Good M zeros
   good-zeros = record { closed = λ w lt k h. absurd (omega (arith, I .counted w lt k)); below = λ j. omega arith }
 
-  good-source : (c : ℕ) (s : Source) → Stored H know t c s → Good M (stampOf H know s)
+  good-source : (c : ℕ) (s : Source) → Stored H t c s → Good M (stampOf know s)
   unfolding stampOf Stored
   good-source c blank h = good-zeros
   good-source c (from v) h =
@@ -98,15 +98,15 @@ module _ {W : Words} {M : Moment W} {S : State W} (I : Inv M S) where
   good-stamp {c} {g} e = subst (Good M) (sym (e .stamp)) (good-source c (g .source) (e .stored))
 
   -- a cell's later write knows the source, and has a number that the source does not
-  passed-source : (c : ℕ) (s : Source) → Stored H know t c s → (w : ℕ) → w < t → Writes H c w → After H know s w
-      → stampOf H know s ≼ know w × (stampOf H know s (H w .desk) < know w (H w .desk))
+  passed-source : (c : ℕ) (s : Source) → Stored H t c s → (w : ℕ) → w < t → Writes H c w → After s w
+      → stampOf know s ≼ know w × (stampOf know s (H w .desk) < know w (H w .desk))
   unfolding stampOf Stored After
   passed-source c blank h w lt k a = (λ j. omega arith, I .counted w lt (k .0))
   passed-source c (from v) h w lt k a =
       let i = I .told w lt (writing H (k .0)) in
       (i .climbs c k v a (h .1), i .new (k .0) v a (writing H (h .1 .0)))
 
-  passed : {c : ℕ} {g : Held W} → Genuine M c g → (w : ℕ) → w < t → Writes H c w → After H know (g .source) w
+  passed : {c : ℕ} {g : Held W} → Genuine M c g → (w : ℕ) → w < t → Writes H c w → After (g .source) w
       → g .stamp ≼ know w × (g .stamp (H w .desk) < know w (H w .desk))
   passed {c} {g} e w lt k a = rw (e .stamp) (passed-source c (g .source) (e .stored) w lt k a)
 
@@ -114,7 +114,7 @@ module _ {W : Words} {M : Moment W} {S : State W} (I : Inv M S) where
   pub fresh-stamp : {c : ℕ} {g : Held W} → Genuine M c g → Fresh H know t c (g .source) (g .stamp)
   fresh-stamp e w lt k a n = omega (arith, passed e w lt k a .1)
 
-  earlier : {c : ℕ} {g : Held W} {a : Clock} → Genuine M c g → Closed H know t a → (w : ℕ) → w < t → Writes H c w → After H know (g .source) w
+  earlier : {c : ℕ} {g : Held W} {a : Clock} → Genuine M c g → Closed H know t a → (w : ℕ) → w < t → Writes H c w → After (g .source) w
       → Knows H know a w → Earlier (g .stamp) a
   earlier e z w lt k f n =
       let (le, new) = passed e w lt k f in
@@ -130,7 +130,7 @@ module _ {W : Words} {M : Moment W} {S : State W} (I : Inv M S) where
       (λ w lt k f n.
       ⊎-elim
       (λ late. late (earlier (copy .genuine) z w lt k f n))
-      (λ last. I .lasts c .top w lt k (subst (λ (x : Held W). After H know (x .source) w) last f))
+      (λ last. I .lasts c .top w lt k (subst (λ (x : Held W). After (x .source) w) last f))
       (spared g e))
 
   -- the named cell may hold what was learned if that is fresh for the desk

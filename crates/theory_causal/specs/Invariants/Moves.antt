@@ -23,7 +23,7 @@ module _ {W : Words} {M : Moment W} {S : State W} (I : Inv M S) where
   open Moment M using (history as H, know, now as t, own)
 
   -- ---- what is known of a desk by what it waits for
-  waits : (p : ℕ) {s : Slot W} → S .desks p .slot ≡ s → Slotted M p (S .desks p .clock) (S .desks p .served) (S .desks p .asked) s
+  pub waits : (p : ℕ) {s : Slot W} → S .desks p .slot ≡ s → Slotted M p (S .desks p .clock) (S .desks p .served) (S .desks p .asked) s
   waits p e = subst (Slotted M p (S .desks p .clock) (S .desks p .served) (S .desks p .asked)) e (I .desks p .slot)
 
   level-of : (p : ℕ) → S .desks p .slot ≡ empty → Level M p (S .desks p .clock)

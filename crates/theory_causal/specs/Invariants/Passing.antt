@@ -57,11 +57,11 @@ module _ {W : Words} (M : Moment W) (after : ℕ → Clock) where
   pub closed-next : (a : Clock) → (H t .kind ≡ write → Knows H know a t → know t ≼ a) → Closed H know t a → Closed H know (suc t) a
   closed-next a = passing (λ (w : ℕ). H w .kind ≡ write → Knows H know a w → know w ≼ a)
 
-  pub fresh-next : (c : ℕ) (s : Source) (a : Clock) → (Writes H c t → After H know s t → Knows H know a t → ⊥)
+  pub fresh-next : (c : ℕ) (s : Source) (a : Clock) → (Writes H c t → After s t → Knows H know a t → ⊥)
       → Fresh H know t c s a → Fresh H know (suc t) c s a
-  fresh-next c s a = passing (λ (w : ℕ). Writes H c w → After H know s w → Knows H know a w → ⊥)
+  fresh-next c s a = passing (λ (w : ℕ). Writes H c w → After s w → Knows H know a w → ⊥)
 
-  stored-next : (c : ℕ) (s : Source) → Stored H know t c s → Stored H know (suc t) c s
+  stored-next : (c : ℕ) (s : Source) → Stored H t c s → Stored H (suc t) c s
   unfolding Stored
   stored-next c blank h = h
   stored-next c (from w) h = (omega arith, h .1)
@@ -72,7 +72,7 @@ module _ {W : Words} (M : Moment W) (after : ℕ → Clock) where
   pub last-next : {c : ℕ} {g : Held W} → (Writes H c t → ⊥) → Last M c g → Last (later M after) c g
   last-next {c} {g} other l = record {
     genuine = genuine-next (l .genuine);
-    top = passing (λ (w : ℕ). Writes H c w → After H know (g .source) w → ⊥) (λ k f. other k) (l .top);
+    top = passing (λ (w : ℕ). Writes H c w → After (g .source) w → ⊥) (λ k f. other k) (l .top);
   }
 
   -- ---- desks' own operations know no less, and a write at this step has a number that nobody knew

@@ -19,8 +19,8 @@ use Rattle.theory_causal.specs.Invariants.Steps.{tell, others-fine, does
 module _ {W : Words} {M : Moment W} {S : State W} (I : Inv M S) (c : ℕ) where
   open Moment M using (history as H, know, now as t, own)
 
-  known-source : (s : Source) → Stored H know t c s → ((x : ℕ) → x < t → Writes H c x → After H know s x → ⊥)
-      → (y : ℕ) → y < t → Writes H c y → know y ≼ stampOf H know s
+  known-source : (s : Source) → Stored H t c s → ((x : ℕ) → x < t → Writes H c x → After s x → ⊥)
+      → (y : ℕ) → y < t → Writes H c y → know y ≼ stampOf know s
   unfolding Stored stampOf After
   known-source blank h top y lt i = absurd (top y lt i tt)
   known-source (from v) h top y lt i =
