@@ -28,8 +28,8 @@ pub then : {W : Words} (H : History W) (x y : ℕ) → Acts (H x) → Acts (H y)
 then H x y i j = same-desk (⊎-elim (writing H) (reading H) i) (⊎-elim (writing H) (reading H) j)
 
 -- a blank read after a write of its cell
-pub late : {W : Words} {H : History W} {p : ℕ} {l : List ℕ} → Order H p l → (w x : ℕ) → ReadBy H p x → Writes H (H x .cell) w → H x .source ≡ blank
-    → Causal H w x → ⊥
+pub late : {W : Words} {H : History W} {p : ℕ} {l : List ℕ} → Order H p l → (w x : ℕ) → ReadBy H p x → Writes H (H x .cell) w
+    → H x .source ≡ blank → Causal H w x → ⊥
 unfolding Nearest
 late {H} {p} {l} o w x r k e c =
     let near : Nearest H (λ u v. Before u v l) (H x .cell) x blank = rw e at (o .explains .nearest x r) in
