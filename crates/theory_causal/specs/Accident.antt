@@ -6,26 +6,30 @@ use mathlib.Core.Logic.{_⊎_, inl, inr, ⊎-elim}
 use mathlib.Core.List.{List, [], _∷_}
 use Prim.Native.Nat.{ℕ, zero, suc, _≤_, _<_, min}
 use native.Mathlib.Omega.{arith}
-use Rattle.theory_causal.specs.History.{write, read, blank, from, Step, History, wrote, showed, listed, Operation, Writes, ReadBy}
-use Rattle.theory_causal.specs.History.{wordOf, Causal, same-desk, shown, chain}
+use Rattle.theory_causal.specs.History.{Words, write, read, blank, from, Step, History, wrote, showed, listed, Operation, Writes}
+use Rattle.theory_causal.specs.History.{ReadBy, wordOf, Causal, same-desk, shown, chain}
 use Rattle.theory_causal.specs.Facts.{writing, reading}
 use Rattle.theory_causal.specs.Demand.{In, Before, View, Nearest, Order}
 
+-- words that are numbers, and 0 where none was written
+abbrev pub numbers : Words
+numbers = record { Word = ℕ; noWord = 0 }
+
 -- no list is an order for desk p
-abbrev pub Hopeless : List Step → (desk : ℕ) → Type 0
+abbrev pub Hopeless : List (Step numbers) → (desk : ℕ) → Type 0
 Hopeless h p = (l : List ℕ) → Order (listed h) p l → ⊥
 
 -- ---- ways to see it
 -- two operations of one desk
-abbrev pub Acts : Step → Type 0
+abbrev pub Acts : {W : Words} → Step W → Type 0
 Acts s = (s .kind ≡ write) ⊎ (s .kind ≡ read)
 
-pub then : (H : History) (x y : ℕ) → Acts (H x) → Acts (H y) → H x .desk ≡ H y .desk → H x .asked < H y .asked → Causal H x y
+pub then : {W : Words} (H : History W) (x y : ℕ) → Acts (H x) → Acts (H y) → H x .desk ≡ H y .desk → H x .asked < H y .asked → Causal H x y
 then H x y i j = same-desk (⊎-elim (writing H) (reading H) i) (⊎-elim (writing H) (reading H) j)
 
 -- a blank read after a write of its cell
-pub late : {H : History} {p : ℕ} {l : List ℕ} → Order H p l → (w x : ℕ) → ReadBy H p x → Writes H (H x .cell) w → H x .source ≡ blank
-    → Causal H w x → ⊥
+pub late : {W : Words} {H : History W} {p : ℕ} {l : List ℕ} → Order H p l → (w x : ℕ) → ReadBy H p x → Writes H (H x .cell) w
+    → H x .source ≡ blank → Causal H w x → ⊥
 unfolding Nearest
 late {H} {p} {l} o w x r k e c =
     let near : Nearest H (λ u v. Before u v l) (H x .cell) x blank = rw e at (o .explains .nearest x r) in
@@ -48,7 +52,7 @@ pub one-way : (x y : ℕ) (l : List ℕ) → ((z : ℕ) → Before z z l → ⊥
 one-way x y l once a b = once x (through x y x l once a b)
 
 -- ---- the accident: desk 0 writes a datum and then a coordinate; desk 1 sees the coordinate and then no datum
-unfoldable pub accident : List Step
+unfoldable pub accident : List (Step numbers)
 accident = wrote 0 0 27 0 ∷ wrote 0 1 500 1 ∷ showed 1 1 500 (from 1) 2 ∷ showed 1 0 0 blank 3 ∷ []
 
 pub no-accident : Hopeless accident 1
@@ -59,7 +63,7 @@ no-accident l o =
     (then (listed accident) 2 3 (inr refl) (inr refl) refl (omega arith)))
 
 -- ---- the same through a third desk, whose read is not in desk 2's view
-unfoldable pub hearsay : List Step
+unfoldable pub hearsay : List (Step numbers)
 hearsay = wrote 0 0 27 0 ∷ showed 1 0 27 (from 0) 1 ∷ wrote 1 1 500 2 ∷ showed 2 1 500 (from 2) 3 ∷ showed 2 0 0 blank 4 ∷ []
 
 pub no-hearsay : Hopeless hearsay 2
@@ -70,7 +74,7 @@ no-hearsay l o =
     (chain (shown {w = 2} {x = 3} refl refl refl) (then (listed hearsay) 3 4 (inr refl) (inr refl) refl (omega arith))))
 
 -- ---- a desk that does not see its own write
-unfoldable pub forgotten : List Step
+unfoldable pub forgotten : List (Step numbers)
 forgotten = wrote 0 0 27 0 ∷ showed 0 0 0 blank 1 ∷ []
 
 pub no-forgotten : Hopeless forgotten 0
@@ -78,7 +82,7 @@ unfolding forgotten
 no-forgotten l o = late o 0 1 (refl, refl) (refl, refl) refl (then (listed forgotten) 0 1 (inl refl) (inr refl) refl (omega arith))
 
 -- ---- a read of an overwritten write
-unfoldable pub overwritten : List Step
+unfoldable pub overwritten : List (Step numbers)
 overwritten = wrote 0 0 27 0 ∷ wrote 0 0 28 1 ∷ showed 0 0 27 (from 0) 2 ∷ []
 
 pub no-overwritten : Hopeless overwritten 0
@@ -90,7 +94,7 @@ no-overwritten l o =
     ⊎-elim (λ e. omega arith) (one-way 0 1 l (o .once) first) (o .explains .nearest 2 (refl, refl) .2 1 (refl, refl) second)
 
 -- ---- a read from the future
-unfoldable pub foreseen : List Step
+unfoldable pub foreseen : List (Step numbers)
 foreseen = showed 0 0 27 (from 1) 0 ∷ wrote 0 0 27 1 ∷ []
 
 pub no-foreseen : Hopeless foreseen 0
@@ -101,14 +105,14 @@ no-foreseen l o =
     (chain (then (listed foreseen) 0 1 (inr refl) (inl refl) refl (omega arith)) (shown {w = 1} {x = 0} refl refl refl)))
 
 -- ---- another word than the source's, and a write of another cell
-unfoldable pub misread : List Step
+unfoldable pub misread : List (Step numbers)
 misread = wrote 0 0 27 0 ∷ showed 1 0 28 (from 0) 1 ∷ []
 
 pub no-misread : Hopeless misread 1
 unfolding misread wordOf
 no-misread l o = omega (arith, o .explains .word 1 (refl, refl))
 
-unfoldable pub misplaced : List Step
+unfoldable pub misplaced : List (Step numbers)
 misplaced = wrote 0 1 27 0 ∷ showed 1 0 27 (from 0) 1 ∷ []
 
 pub no-misplaced : Hopeless misplaced 1
@@ -116,7 +120,7 @@ unfolding misplaced Nearest
 no-misplaced l o = omega (arith, o .explains .nearest 1 (refl, refl) .0 .1)
 
 -- ---- a good one: desk 1 reads its old blank copy after the write was stored, and then the write
-unfoldable pub good : List Step
+unfoldable pub good : List (Step numbers)
 good = wrote 0 0 27 0 ∷ showed 1 0 0 blank 1 ∷ showed 1 0 27 (from 0) 2 ∷ []
 
 -- its operations, its one write, and its one read of it

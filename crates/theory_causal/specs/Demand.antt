@@ -4,7 +4,7 @@ use mathlib.Core.Path.{_≡_}
 use mathlib.Core.Logic.{_⊎_}
 use mathlib.Core.List.{List, [], _∷_}
 use Prim.Native.Nat.{ℕ, _<_}
-use Rattle.theory_causal.specs.History.{write, Source, blank, from, History, Writes, ReadBy, wordOf, Causal}
+use Rattle.theory_causal.specs.History.{Words, write, Source, blank, from, History, Writes, ReadBy, wordOf, Causal}
 
 -- x stands in the list; x stands in it before y
 abbrev pub In : ℕ → List ℕ → Type 0
@@ -15,7 +15,7 @@ abbrev pub Before : ℕ → ℕ → List ℕ → Type 0
 Before x y [] = ⊥
 Before x y (z ∷ l) = ((x ≡ z) × In y l) ⊎ Before x y l
 
-module _ (H : History) where
+module _ {W : Words} (H : History W) where
   -- what desk p puts in order: all writes and its own reads
   abbrev pub View : (desk : ℕ) → ℕ → Type 0
   View p x = (H x .kind ≡ write) ⊎ ReadBy H p x

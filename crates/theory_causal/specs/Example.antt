@@ -15,6 +15,7 @@ use Rattle.theory_causal.specs.Facts.{zeros}
 use Rattle.theory_causal.specs.Machine.{merged, raised, Held, Cell, gone, held, empty, write-asked, write-answered, Desk}
 use Rattle.theory_causal.specs.Machine.{unwritten, stored, asking, answered, brought, storing, asks-write, reads, brings-write}
 use Rattle.theory_causal.specs.Machine.{Start, Move, alone, takes, Run, start, next}
+use Rattle.theory_causal.specs.Accident.{numbers}
 use Rattle.theory_causal.specs.Run.{demand-3}
 use Rattle.theory_causal.specs.Keepers.{contents, table, lost, kept, brings, changes, stores}
 
@@ -22,53 +23,53 @@ abbrev keeper : ℕ → ℕ
 keeper c = 0
 
 -- cell 0 alone
-abbrev only : Held → ℕ → Cell
+abbrev only : Held numbers → ℕ → Cell numbers
 only g = changed (λ c. gone) 0 (held g)
 
-abbrev fresh : (ℕ → Cell) → Desk
+abbrev fresh : (ℕ → Cell numbers) → Desk numbers
 fresh cells = record { clock = zeros; cells = cells; slot = empty; served = false; asked = 0 }
 
 -- the rows of desks 0 and 1; the others are fresh
-abbrev rows : Desk → Desk → ℕ → Desk
+abbrev rows : Desk numbers → Desk numbers → ℕ → Desk numbers
 rows a b zero = a
 rows a b (suc zero) = b
 rows a b (suc (suc q)) = fresh (λ c. gone)
 
 -- the answer
-abbrev answer : Held
+abbrev answer : Held numbers
 answer = stored 1 27 (merged zeros (raised 1 zeros))
 
 -- the rows after each step; the read changes nothing
-abbrev rows₀ : ℕ → Desk
+abbrev rows₀ : ℕ → Desk numbers
 rows₀ = rows (fresh (only unwritten)) (fresh (λ c. gone))
 
-abbrev rows₁ : ℕ → Desk
+abbrev rows₁ : ℕ → Desk numbers
 rows₁ = rows (rows₀ 0) (asking 0 (rows₀ 1) (write-asked 0 27 (raised 1 zeros)) (λ c. gone))
 
-abbrev rows₂ : ℕ → Desk
+abbrev rows₂ : ℕ → Desk numbers
 rows₂ = rows (storing (rows₁ 0) answer (only answer) false) (answered (rows₁ 1) (write-answered 0 answer))
 
-abbrev rows₃ : ℕ → Desk
+abbrev rows₃ : ℕ → Desk numbers
 rows₃ = rows (rows₂ 0) (brought (rows₂ 1) (answer .stamp) (only answer))
 
-others : (a b d : Desk) (q : ℕ) → q ≢ 1 → rows a b q ≡ rows a d q
+others : (a b d : Desk numbers) (q : ℕ) → q ≢ 1 → rows a b q ≡ rows a d q
 others a b d zero ne = refl
 others a b d (suc zero) ne = absurd (ne refl)
 others a b d (suc (suc q)) ne = refl
 
-here : (g : Held) → only g 0 ≡ held g
+here : (g : Held numbers) → only g 0 ≡ held g
 here g = changed-here (λ c. gone) 0 (held g)
 
-elsewhere : (g : Held) (b : ℕ) → b ≢ 0 → only g b ≡ gone
+elsewhere : (g : Held numbers) (b : ℕ) → b ≢ 0 → only g b ≡ gone
 elsewhere g = changed-elsewhere (λ c. gone) 0 (held g)
 
-what : (g h : Held) (c : ℕ) → only g c ≡ held h → h ≡ g
+what : (g h : Held numbers) (c : ℕ) → only g c ≡ held h → h ≡ g
 what g h c e = elim (ℕ-discrete c 0) [ yes i ↦ cc (here g) | no ne ↦ cc (elsewhere g c ne) ]
 
 starts : Start (table keeper rows₀)
 starts = record { clock = clock; slot = slot; cells = cells; last = last }
   where
-    cells : (p c : ℕ) (g : Held) → rows₀ p .cells c ≡ held g → g ≡ unwritten
+    cells : (p c : ℕ) (g : Held numbers) → rows₀ p .cells c ≡ held g → g ≡ unwritten
     cells zero c g e = what unwritten g c e
     cells (suc zero) c g e = cc
     cells (suc (suc p)) c g e = cc
@@ -126,7 +127,7 @@ reads-it : Move 3 (table keeper rows₃) (table keeper rows₃) (showed 1 0 27 (
 reads-it =
     alone 1 (reads 0 answer (only answer) refl (here answer) (λ b g e. e)) (changes keeper rows₃ rows₃ 1 refl (λ q ne. refl) (λ b i. refl))
 
-unfoldable pub steps : List Step
+unfoldable pub steps : List (Step numbers)
 steps = nothing ∷ wrote 1 0 27 0 ∷ nothing ∷ showed 1 0 27 (from 1) 3 ∷ []
 
 run : Run steps (table keeper rows₃)

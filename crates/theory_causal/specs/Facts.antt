@@ -4,7 +4,7 @@ use mathlib.Core.Path.{_≡_}
 use Prim.Native.Nat.{ℕ, _≤_, _<_}
 use native.Mathlib.Omega.{arith}
 use native.Mathlib.Decide.{decLt, ℕ-discrete}
-use Rattle.theory_causal.specs.History.{write, read, Source, blank, from, History, Operation, Writes, wordOf}
+use Rattle.theory_causal.specs.History.{Words, write, read, Source, blank, from, History, Operation, Writes, wordOf}
 
 abbrev pub Clock : Type 0
 Clock = ℕ → ℕ
@@ -16,16 +16,31 @@ a ≼ b = (j : ℕ) → a j ≤ b j
 abbrev pub zeros : Clock
 zeros j = 0
 
--- a step that writes or reads is an operation
-module _ (H : History) {x : ℕ} where
+-- ---- of a source: its stamp, by the clocks of the operations
+unfoldable pub stampOf : (know : ℕ → Clock) → Source → Clock
+stampOf know blank = zeros
+stampOf know (from w) = know w
+
+-- a write that the cell's keeper stored after it
+unfoldable pub After : Source → ℕ → Type 0
+After blank w = Unit {0}
+After (from v) w = v < w
+
+-- it is none, or a write of the cell before step t
+unfoldable pub Stored : {W : Words} → History W → ℕ → (cell : ℕ) → Source → Type 0
+Stored H t c blank = Unit {0}
+Stored H t c (from w) = (w < t) × Writes H c w
+
+-- ---- a step that writes or reads is an operation
+module _ {W : Words} (H : History W) {x : ℕ} where
   pub writing : H x .kind ≡ write → Operation H x
   writing e q = let z : _≡_ {A = ℕ} 0 1 = cc in omega arith
 
   pub reading : H x .kind ≡ read → Operation H x
   reading e q = let z : _≡_ {A = ℕ} 0 1 = cc in omega arith
 
--- `know x` is the clock of operation x: a write's stamp, or what its desk's operations have seen up to and with a read.
-module _ (H : History) (know : ℕ → Clock) where
+-- ---- `know x` is the clock of operation x: a write's stamp, or what its desk's operations have seen up to and with a read.
+module _ {W : Words} (H : History W) (know : ℕ → Clock) where
   -- a clock knows a write if it has the write's number, which stands in the write's clock at the writer's place
   abbrev pub Knows : Clock → ℕ → Type 0
   Knows a w = know w (H w .desk) ≤ a (H w .desk)
@@ -34,28 +49,14 @@ module _ (H : History) (know : ℕ → Clock) where
   abbrev pub Closed : ℕ → Clock → Type 0
   Closed t a = (w : ℕ) → w < t → H w .kind ≡ write → Knows a w → know w ≼ a
 
-  unfoldable pub stampOf : Source → Clock
-  stampOf blank = zeros
-  stampOf (from w) = know w
-
-  -- it is none, or a write of the cell before step t
-  unfoldable pub Stored : ℕ → (cell : ℕ) → Source → Type 0
-  Stored t c blank = Unit {0}
-  Stored t c (from w) = (w < t) × Writes H c w
-
-  -- a write that the cell's keeper stored after this source
-  unfoldable pub After : Source → ℕ → Type 0
-  After blank w = Unit {0}
-  After (from v) w = v < w
-
   -- nothing stored in the cell after the source is known to the clock
   abbrev pub Fresh : ℕ → (cell : ℕ) → Source → Clock → Type 0
   Fresh t c s a = (w : ℕ) → w < t → Writes H c w → After s w → Knows a w → ⊥
 
   -- What has to be known of a read, and of each operation beside those before it.
   pub record Came (x : ℕ) : Type 0 where
-    pub stored : Stored x (H x .cell) (H x .source)
-    pub seen : stampOf (H x .source) ≼ know x
+    pub stored : Stored H x (H x .cell) (H x .source)
+    pub seen : stampOf know (H x .source) ≼ know x
     pub fresh : Fresh x (H x .cell) (H x .source) (know x)
     pub word : H x .word ≡ wordOf H (H x .source)
 

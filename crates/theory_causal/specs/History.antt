@@ -16,38 +16,40 @@ pub data Source : Type 0 where
   blank : Source
   from : ℕ → Source
 
--- the word where none was written
-abbrev pub blankWord : ℕ
-blankWord = 0
+-- What a word is, and the one that stands where none was written. Nothing here asks more of words.
+pub record Words : Type 1 where
+  pub Word : Type 0
+  pub noWord : Word
 
-pub record Step : Type 0 where
+pub record Step (W : Words) : Type 0 where
   pub kind : Kind
   pub desk : ℕ
   pub cell : ℕ
   -- the word written or shown
-  pub word : ℕ
+  pub word : W .Word
   -- of a read
   pub source : Source
   -- the step at which the desk asked for it
   pub asked : ℕ
 
-abbrev pub History : Type 0
-History = ℕ → Step
+abbrev pub History : Words → Type 0
+History W = ℕ → Step W
 
-abbrev pub nothing : Step
-nothing = record { kind = quiet; desk = 0; cell = 0; word = 0; source = blank; asked = 0 }
+module _ {W : Words} where
+  abbrev pub nothing : Step W
+  nothing = record { kind = quiet; desk = 0; cell = 0; word = W .noWord; source = blank; asked = 0 }
 
-abbrev pub wrote : (desk cell word asked : ℕ) → Step
-wrote p c w a = record { kind = write; desk = p; cell = c; word = w; source = blank; asked = a }
+  abbrev pub wrote : (desk cell : ℕ) → W .Word → (asked : ℕ) → Step W
+  wrote p c w a = record { kind = write; desk = p; cell = c; word = w; source = blank; asked = a }
 
-abbrev pub showed : (desk cell word : ℕ) → Source → (asked : ℕ) → Step
-showed p c w s a = record { kind = read; desk = p; cell = c; word = w; source = s; asked = a }
+  abbrev pub showed : (desk cell : ℕ) → W .Word → Source → (asked : ℕ) → Step W
+  showed p c w s a = record { kind = read; desk = p; cell = c; word = w; source = s; asked = a }
 
--- Nothing happens past the end of a list.
-abbrev pub listed : List Step → History
-listed l x = getD l x nothing
+  -- Nothing happens past the end of a list.
+  abbrev pub listed : List (Step W) → History W
+  listed l x = getD l x nothing
 
-module _ (H : History) where
+module _ {W : Words} (H : History W) where
   -- a finished read or a stored write
   abbrev pub Operation : ℕ → Type 0
   Operation x = (H x .kind ≡ quiet) → ⊥
@@ -59,8 +61,8 @@ module _ (H : History) where
   ReadBy p x = (H x .kind ≡ read) × (H x .desk ≡ p)
 
   -- the word that a source stands for
-  unfoldable pub wordOf : Source → ℕ
-  wordOf blank = blankWord
+  unfoldable pub wordOf : Source → W .Word
+  wordOf blank = W .noWord
   wordOf (from w) = H w .word
 
   -- One desk's operations in the order it asked them, a write before each read that shows it, and chains of these.

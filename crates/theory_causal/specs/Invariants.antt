@@ -5,7 +5,7 @@ use mathlib.Core.Path.{_≡_}
 use mathlib.Core.Bool.{Bool, false}
 use mathlib.Core.Logic.{_≢_}
 use Prim.Native.Nat.{ℕ, suc, _≤_, _<_}
-use Rattle.theory_causal.specs.History.{write, History, Operation, Writes, wordOf}
+use Rattle.theory_causal.specs.History.{Words, write, History, Operation, Writes, wordOf}
 use Rattle.theory_causal.specs.Facts.{Clock, _≼_, Closed, stampOf, Stored, After, Fresh, Told}
 use Rattle.theory_causal.specs.Machine.{Held, Cell, held, Slot, empty, read-asked, write-asked, read-answered, write-answered, Desk, State}
 pub mod Learned
@@ -16,13 +16,13 @@ pub mod Stows
 pub mod Moves
 
 -- a run before its step `now`
-pub record Moment : Type 0 where
-  pub history : History
+pub record Moment (W : Words) : Type 0 where
+  pub history : History W
   pub know : ℕ → Clock
   pub now : ℕ
   pub own : ℕ → Clock
 
-module _ (M : Moment) where
+module _ {W : Words} (M : Moment W) where
   open Moment M using (history as H, know, now as t, own)
 
   -- I1: what a clock knows has been stored, and it knows it whole; `own j j` counts desk j's writes
@@ -31,25 +31,25 @@ module _ (M : Moment) where
     pub below : (j : ℕ) → a j ≤ own j j
 
   -- word and stamp are those of the source
-  pub record Genuine (c : ℕ) (g : Held) : Type 0 where
-    pub stored : Stored H know t c (g .source)
-    pub stamp : g .stamp ≡ stampOf H know (g .source)
+  pub record Genuine (c : ℕ) (g : Held W) : Type 0 where
+    pub stored : Stored H t c (g .source)
+    pub stamp : g .stamp ≡ stampOf know (g .source)
     pub word : g .word ≡ wordOf H (g .source)
 
   -- I2: what stands last in a cell
-  pub record Last (c : ℕ) (g : Held) : Type 0 where
+  pub record Last (c : ℕ) (g : Held W) : Type 0 where
     pub genuine : Genuine c g
-    pub top : (w : ℕ) → w < t → Writes H c w → After H know (g .source) w → ⊥
+    pub top : (w : ℕ) → w < t → Writes H c w → After (g .source) w → ⊥
 
   -- I3: a held cell is fresh for its desk's clock
-  pub record Copy (a : Clock) (c : ℕ) (g : Held) : Type 0 where
+  pub record Copy (a : Clock) (c : ℕ) (g : Held W) : Type 0 where
     pub genuine : Genuine c g
     pub under : g .stamp ≼ a
     pub fresh : Fresh H know t c (g .source) a
 
-  pub record Shelf (a : Clock) (cells : ℕ → Cell) : Type 0 where
+  pub record Shelf (a : Clock) (cells : ℕ → Cell W) : Type 0 where
     pub good : Good a
-    pub copies : (c : ℕ) (g : Held) → cells c ≡ held g → Copy a c g
+    pub copies : (c : ℕ) (g : Held W) → cells c ≡ held g → Copy a c g
 
   module _ (p : ℕ) where
     -- I1': the desk's own number is the count of its writes, and its clock knows what its operations know
@@ -70,23 +70,23 @@ module _ (M : Moment) where
       pub seen : own p ≼ a
 
     -- I4: an answer is fresh for what the desk's operations know, and for its clock while *served* is off
-    pub record Answer (a : Clock) (served : Bool) (c : ℕ) (g : Held) : Type 0 where
+    pub record Answer (a : Clock) (served : Bool) (c : ℕ) (g : Held W) : Type 0 where
       pub genuine : Genuine c g
       pub fresh : Fresh H know t c (g .source) (own p)
       pub still : served ≡ false → Fresh H know t c (g .source) a
 
-    unfoldable pub Slotted : Clock → (served : Bool) → (asked : ℕ) → Slot → Type 0
+    unfoldable pub Slotted : Clock → (served : Bool) → (asked : ℕ) → Slot W → Type 0
     Slotted a on asked empty = Level a
     Slotted a on asked (read-asked c) = Level a × Pending asked
     Slotted a on asked (write-asked c w sent) = Level a × Pending asked × Sent sent
     Slotted a on asked (read-answered c g) = Level a × Pending asked × Answer a on c g
     Slotted a on asked (write-answered c g) = Answer a on c g × own p ≼ g .stamp × (g .stamp p ≡ own p p)
 
-    pub record Fine (d : Desk) : Type 0 where
+    pub record Fine (d : Desk W) : Type 0 where
       pub shelf : Shelf (d .clock) (d .cells)
       pub slot : Slotted (d .clock) (d .served) (d .asked) (d .slot)
 
-  pub record Inv (S : State) : Type 0 where
+  pub record Inv (S : State W) : Type 0 where
     pub told : (x : ℕ) → x < t → Operation H x → Told H know x
     pub asked : (x : ℕ) → x < t → Operation H x → H x .asked ≤ x
     pub counted : (w : ℕ) → w < t → H w .kind ≡ write → 0 < know w (H w .desk)

@@ -7,7 +7,7 @@ use Prim.Native.Nat.{ℕ, zero, suc, _+_, _*_, _≤_, _<_}
 use native.Mathlib.Nat.{eq-or-lt-of-le, le-of-suc-le-suc, le-trans, mul-le-mul-right}
 use native.Mathlib.Omega.{arith}
 use native.Mathlib.Decide.{decLe, decLt, ℕ-discrete}
-use Rattle.theory_causal.specs.History.{Kind, quiet, write, read, Kind-discrete, Source, blank, from, History, Operation, Writes}
+use Rattle.theory_causal.specs.History.{Words, Kind, quiet, write, read, Kind-discrete, Source, blank, from, History, Operation, Writes}
 use Rattle.theory_causal.specs.History.{ReadBy, Causal, same-desk, shown, chain}
 use Rattle.theory_causal.specs.Demand.{Before, View, Nearest, Explains, InTurn, Order}
 use Rattle.theory_causal.specs.Ranking.{inOrder, listed-before, listed-order}
@@ -46,7 +46,7 @@ first {P} test (suc n) = go (first test n) (test n)
         ]
 
 -- n is past every operation
-module _ (H : History) (know : ℕ → Clock) (n : ℕ)
+module _ {W : Words} (H : History W) (know : ℕ → Clock) (n : ℕ)
     (ends : (x : ℕ) → Operation H x → x < n)
     (told : (x : ℕ) → Operation H x → Told H know x) where
   -- ---- causal order goes up in time and in knowledge
@@ -71,8 +71,8 @@ module _ (H : History) (know : ℕ → Clock) (n : ℕ)
   unfolding Stored stampOf
   source-of x r w e =
       let came = told x (reading H r) .came r in
-      let stored : Stored H know x (H x .cell) (from w) = rw e at (came .stored) in
-      let seen : stampOf H know (from w) ≼ know x = rw e at (came .seen) in
+      let stored : Stored H x (H x .cell) (from w) = rw e at (came .stored) in
+      let seen : stampOf know (from w) ≼ know x = rw e at (came .seen) in
       (stored .0, stored .1, seen)
 
   goes-up : {x y : ℕ} → Causal H x y → Up x y
@@ -195,7 +195,7 @@ module _ (H : History) (know : ℕ → Clock) (n : ℕ)
     in-turn c v w i k lt = write-write v w (i .0) (k .0) lt (told w (writing H (k .0)) .climbs c k v lt i)
 
     -- and nothing that was stored after its source stands before it
-    stale : (x v : ℕ) → ReadBy H p x → Writes H (H x .cell) v → rank v < rank x → After H know (H x .source) v → ⊥
+    stale : (x v : ℕ) → ReadBy H p x → Writes H (H x .cell) v → rank v < rank x → After (H x .source) v → ⊥
     stale x v r h lt after =
         let knows = heard x v r (h .0) lt in
         let o = reading H (r .0) in

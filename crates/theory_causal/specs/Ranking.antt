@@ -8,7 +8,7 @@ use native.Mathlib.Nat.{eq-or-lt-of-le, le-of-suc-le-suc}
 use native.Mathlib.Omega.{arith}
 use native.Mathlib.Decide.{decLe, ℕ-discrete}
 use Rattle.theory_causal.specs.Changed.{either}
-use Rattle.theory_causal.specs.History.{write, read, Kind-discrete, Source, blank, from, History, ReadBy}
+use Rattle.theory_causal.specs.History.{Words, write, read, Kind-discrete, Source, blank, from, History, ReadBy}
 use Rattle.theory_causal.specs.Demand.{In, Before, View, Nearest, Explains, Order}
 
 module _ (rank : ℕ → ℕ) where
@@ -115,7 +115,7 @@ module _ (rank : ℕ → ℕ) where
       stands-before n x y = before-of-rank x y (rising n)
 
 -- ---- an order from a rank that explains what desk p saw
-module _ (H : History) (p n : ℕ) (rank : ℕ → ℕ) where
+module _ {W : Words} (H : History W) (p n : ℕ) (rank : ℕ → ℕ) where
   view? : (x : ℕ) → Dec (View H p x)
   view? x = go (Kind-discrete (H x .kind) write) (Kind-discrete (H x .kind) read) (ℕ-discrete (H x .desk) p)
     where

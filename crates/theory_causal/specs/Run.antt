@@ -8,7 +8,7 @@ use native.Mathlib.Decide.{decLt}
 use lib.ListN.{length, length-append, List·getD-append, List·getD-eq-default}
 use lib.Seq.{getD-append-seam}
 use Rattle.theory_causal.specs.Changed.{changed, changed-here, changed-elsewhere}
-use Rattle.theory_causal.specs.History.{Step, History, nothing, listed, Operation, wordOf}
+use Rattle.theory_causal.specs.History.{Words, Step, History, nothing, listed, Operation, wordOf}
 use Rattle.theory_causal.specs.Demand.{Before, InTurn, Order}
 use Rattle.theory_causal.specs.Facts.{Clock, zeros, stampOf, Stored}
 use Rattle.theory_causal.specs.Knowledge.{ordered}
@@ -16,25 +16,26 @@ use Rattle.theory_causal.specs.Machine.{Held, State, unwritten, Start, R
 use Rattle.theory_causal.specs.Invariants.{Moment, Genuine, Good, Level, Slotted, Fine, Inv}
 use Rattle.theory_causal.specs.Invariants.Passing.{taught}
 use Rattle.theory_causal.specs.Invariants.Moves.{keeps}
+pub mod Sources
 
 -- ---- the ghost: what each desk's own operations know, and the clock of each operation
-own : {h : List Step} {S : State} → Run h S → ℕ → Clock
+own : {W : Words} {h : List (Step W)} {S : State W} → Run h S → ℕ → Clock
 own (start s) = λ p. zeros
 own (next {o = o} {a = a} r m) = taught (own r) (o .desk) a
 
-know : {h : List Step} {S : State} → Run h S → ℕ → Clock
+know : {W : Words} {h : List (Step W)} {S : State W} → Run h S → ℕ → Clock
 know (start s) = λ x. zeros
 know (next {h = h} {o = o} {a = a} r m) = changed (know r) (length h) (taught (own r) (o .desk) a (o .desk))
 
 -- ---- the invariants hold at the start
-module _ (H : History) (K : ℕ → Clock) (S : State) (s : Start S) where
-  abbrev first : Moment
+module _ {W : Words} (H : History W) (K : ℕ → Clock) (S : State W) (s : Start S) where
+  abbrev first : Moment W
   first = record { history = H; know = K; now = 0; own = λ p. zeros }
 
   good-start : Good first zeros
   good-start = record { closed = λ w lt. absurd (omega arith); below = λ j. omega arith }
 
-  genuine-start : (c : ℕ) {g : Held} → g ≡ unwritten → Genuine first c g
+  genuine-start : (c : ℕ) {g : Held W} → g ≡ unwritten → Genuine first c g
   unfolding Stored stampOf wordOf
   genuine-start c e = subst (Genuine first c) (sym e) (record { stored = tt; stamp = refl; word = refl })
 
@@ -67,7 +68,7 @@ module _ (H : History) (K : ℕ → Clock) (S : State) (s : Start S) where
   }
 
 -- ---- and at each step, for every history and ghost that agree with the run so far
-inv : {h : List Step} {S : State} (r : Run h S) (H : History) (K : ℕ → Clock) → ((x : ℕ) → x < length h → H x ≡ listed h x)
+inv : {W : Words} {h : List (Step W)} {S : State W} (r : Run h S) (H : History W) (K : ℕ → Clock) → ((x : ℕ) → x < length h → H x ≡ listed h x)
     → ((x : ℕ) → x < length h → K x ≡ know r x) → Inv (record { history = H; know = K; now = length h; own = own r }) S
 unfolding own know
 inv (start {S = S} s) H K agree same = inv-start H K S s
@@ -83,16 +84,20 @@ inv (next {h = h} {S' = S'} {o = o} {a = a} r m) H K agree same =
     (agree (length h) now ∙ getD-append-seam h o [] nothing)
     (same (length h) now ∙ changed-here (know r) (length h) new))
 
-module _ {h : List Step} {S : State} (r : Run h S) where
+module _ {W : Words} {h : List (Step W)} {S : State W} (r : Run h S) where
+  abbrev now : Moment W
+  now = record { history = listed h; know = know r; now = length h; own = own r }
+
+  invariants : Inv now S
+  invariants = inv r (listed h) (know r) (λ x lt. refl) (λ x lt. refl)
+
   ends : (x : ℕ) → Operation (listed h) x → x < length h
   ends x o =
       elim (decLt x (length h)) [
         | yes lt ↦ lt
-        | no ge ↦ absurd (o (ap (λ (s : Step). s .kind) (List·getD-eq-default h nothing (omega arith))))
+        | no ge ↦ absurd (o (ap (λ (s : Step W). s .kind) (List·getD-eq-default h nothing (omega arith))))
       ]
 
   -- Demand 3, with each cell's writes in the order stored (T-08).
   pub demand-3 : (p : ℕ) → (l : List ℕ) × Order (listed h) p l × InTurn (listed h) (λ v w. Before v w l)
-  demand-3 =
-      ordered (listed h) (know r) (length h) ends
-      (λ x o. inv r (listed h) (know r) (λ x lt. refl) (λ x lt. refl) .told x (ends x o) o)
+  demand-3 = ordered (listed h) (know r) (length h) ends (λ x o. invariants .told x (ends x o) o)

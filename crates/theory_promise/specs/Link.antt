@@ -33,16 +33,16 @@ use Rattle.theory_promise.specs.Moves.{Moved}
 use Rattle.theory_promise.specs.Moves.Alone.{drop-moved, read-moved, read-asked-moved, write-asked-moved, write-moved}
 use Rattle.theory_promise.specs.Moves.Bring.{bring-read-moved, bring-write-moved}
 use Rattle.theory_promise.specs.Moves.Take.{answer-moved, take-moved}
-use Rattle.theory_promise.specs.Operations.{Trails, entry, Shows}
+use Rattle.theory_promise.specs.Operations.{words, Trails, entry, Shows}
 use Rattle.theory_promise.specs.Room.{Room, Two}
 use Rattle.theory_promise.specs.State.{slotFor, rows, state, slot-kind, is-keeper, no-keeper}
 
 -- the reply to an event that finished a read gives the word that the history has
-abbrev pub Tied : Step → Reply → Type 0
+abbrev pub Tied : Step words → Reply → Type 0
 Tied s r = s .kind ≡ read → Shows r (s .word)
 
 -- a step that is no read
-untied : (s : Step) (r : Reply) → (s .kind ≡ read → _≡_ {A = ℕ} 0 1) → Tied s r
+untied : (s : Step words) (r : Reply) → (s .kind ≡ read → _≡_ {A = ℕ} 0 1) → Tied s r
 untied s r other k = let z = other k in absurd (omega arith)
 
 -- ---- a refusal is no code 0, 1 or 2, so the event is no operation
@@ -90,7 +90,7 @@ module _ (n : ℕ) (t : Table) (g : Trails) (z : Room t) where
     pub moved : Moved n t g (o .after) (entry n g t e (o .reply) .1) (entry n g t e (o .reply) .0)
     pub tied : Tied (entry n g t e (o .reply) .0) (o .reply)
 
-  linked-by : (e : Event) (o : Outcome) (m : Step) (g' : Trails) → entry n g t e (o .reply) ≡ (m, g') → Moved n t g (o .after) g' m
+  linked-by : (e : Event) (o : Outcome) (m : Step words) (g' : Trails) → entry n g t e (o .reply) ≡ (m, g') → Moved n t g (o .after) g' m
       → Tied m (o .reply) → Linked e o
   linked-by e o m g' i moved tied = record { moved = rw i moved; tied = rw i tied }
 

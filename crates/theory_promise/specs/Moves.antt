@@ -9,7 +9,7 @@ use Rattle.theory_causal.specs.Machine.{Desk, Own, Move, alone}
 use Rattle.desk.specs.declared.Record.{Record}
 use Rattle.table.specs.declared.Table.{Table}
 use Rattle.table.specs.Table.{keeperOf, putBack}
-use Rattle.theory_promise.specs.Operations.{Trail, Trails}
+use Rattle.theory_promise.specs.Operations.{words, Trail, Trails}
 use Rattle.theory_promise.specs.Room.{Room, Fits, put-here, put-there, put-room}
 use Rattle.theory_promise.specs.State.{cellsOf, rowOf, rows, state, row-is}
 pub mod Alone
@@ -18,18 +18,18 @@ pub mod Take
 
 module _ (n : ℕ) (t : Table) (g : Trails) where
   -- the event was a move of the machine, and there is room for the next
-  pub record Moved (t' : Table) (g' : Trails) (o : Step) : Type 0 where
+  pub record Moved (t' : Table) (g' : Trails) (o : Step words) : Type 0 where
     pub room : Room t'
     pub learned : ℕ → ℕ
     pub move : Move n (state t g) (state t' g') o learned
 
   -- desk p's row becomes d
-  abbrev pub Becomes : (p : ℕ) → Desk → Step → (learned : ℕ → ℕ) → Type 0
+  abbrev pub Becomes : (p : ℕ) → Desk words → Step words → (learned : ℕ → ℕ) → Type 0
   Becomes p d o a = Own n p (state t g .last) (rows t g p) d o a
 
   -- Desk p has a new record and a new trail, and the cells that it keeps are as they were.
   pub alone-moved : Room t → (p : ℕ) → p < 8 → (v : Record) (g' : Trails) (b : Trail) → Fits t p v → g' p ≡ b
-      → ((q : ℕ) → q ≢ p → g' q ≡ g q) → {o : Step} {a : ℕ → ℕ} → Becomes p (rowOf v b) o a
+      → ((q : ℕ) → q ≢ p → g' q ≡ g q) → {o : Step words} {a : ℕ → ℕ} → Becomes p (rowOf v b) o a
       → ((c : ℕ) → keeperOf t c ≡ p → cellsOf (v .row) (b .source) c ≡ rows t g p .cells c) → Moved (putBack t v) g' o
   unfolding putBack
   alone-moved z p there v g' b f here rest {a = a} m same = record {

@@ -8,12 +8,16 @@ use Prim.Native.Nat.{ℕ}
 use lib.Dec.{eqb}
 use lib.ListN.{length, getD}
 use Rattle.theory_causal.specs.Changed.{changed}
-use Rattle.theory_causal.specs.History.{Source, blank, from, Step, nothing, wrote, showed}
+use Rattle.theory_causal.specs.History.{Words, Source, blank, from, Step, nothing, wrote, showed}
 use Rattle.desk.specs.declared.Event.{Event}
 use Rattle.desk.specs.declared.Reply.{Reply}
 use Rattle.table.specs.declared.Outcome.{Outcome}
 use Rattle.table.specs.declared.Table.{Table}
 use Rattle.table.specs.Table.{slotOf, keeperOf}
+
+-- the words of cells: numbers, and 0 where none was written
+abbrev pub words : Words
+words = record { Word = ℕ; noWord = 0 }
 
 -- Beside each desk: which write each held cell's word comes from, which one the answer in its slot, and the step at which it asked.
 pub record Trail : Type 0 where
@@ -34,7 +38,7 @@ abbrev pub Trails : Type 0
 Trails = (desk : ℕ) → Trail
 
 -- What an event at step n adds to the history, and the trails after it, as its kind, its reply and the desk's slot before it tell.
-unfoldable pub entry : (n : ℕ) → Trails → Table → Event → Reply → Step × Trails
+unfoldable pub entry : (n : ℕ) → Trails → Table → Event → Reply → Step words × Trails
 entry n g t e r =
     let p = e .desk in
     let c = e .cell in
@@ -63,7 +67,7 @@ entry n g t e r =
 pub record Account : Type 0 where
   pub table : Table
   pub trails : Trails
-  pub history : List Step
+  pub history : List (Step words)
   pub replies : List Reply
 
 abbrev pub noReply : Reply

@@ -13,11 +13,11 @@ use Rattle.table.specs.declared.Outcome.{Outcome}
 use Rattle.table.specs.declared.Table.{Table}
 use Rattle.table.specs.Rules.{eventRule}
 use Rattle.table.specs.SetUp.{setUpRule}
-use Rattle.theory_promise.specs.Operations.{Shows, Account, repliedAt, opened, run}
+use Rattle.theory_promise.specs.Operations.{words, Shows, Account, repliedAt, opened, run}
 use Rattle.theory_promise.specs.Runs.{runs-from}
 
 -- what happened in a run
-abbrev pub historyOf : Account → History
+abbrev pub historyOf : Account → History words
 historyOf a = listed (a .history)
 
 -- What a run owes to desk p.

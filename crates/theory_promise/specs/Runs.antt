@@ -16,7 +16,7 @@ use Rattle.table.specs.Fresh.{fresh-sized}
 use Rattle.table.specs.Rules.{eventRule}
 use Rattle.table.specs.SetUp.{freshTable, answerSetUp, setUpRule}
 use Rattle.theory_promise.specs.Link.{Tied, linked}
-use Rattle.theory_promise.specs.Operations.{entry, Account, noReply, repliedAt, opened, next, run}
+use Rattle.theory_promise.specs.Operations.{words, entry, Account, noReply, repliedAt, opened, next, run}
 use Rattle.theory_promise.specs.Room.{Room}
 use Rattle.theory_promise.specs.Start.{start, fresh-clocks}
 use Rattle.theory_promise.specs.State.{state}
@@ -38,10 +38,10 @@ seam l a d x e = rw e (getD-append-seam l a [] d)
 abbrev reply : Account → Event → Reply
 reply a e = eventRule (a .table) e .reply
 
-abbrev step : Account → Event → Step
+abbrev step : Account → Event → Step words
 step a e = entry (length (a .history)) (a .trails) (a .table) e (reply a e) .0
 
-module _ (h : List Step) (l : List Reply) (o : Step) (r : Reply) (d : Reply) (long : length l ≡ length h) where
+module _ (h : List (Step words)) (l : List Reply) (o : Step words) (r : Reply) (d : Reply) (long : length l ≡ length h) where
   tied-next : ((x : ℕ) → Tied (listed h x) (getD l x d)) → Tied o r → (x : ℕ) → Tied (listed (h ++ (o ∷ [])) x) (getD (l ++ (r ∷ [])) x d)
   tied-next old new x =
       elim (decLt x (length h)) [
@@ -50,7 +50,7 @@ module _ (h : List Step) (l : List Reply) (o : Step) (r : Reply) (d : Reply) (lo
           | yes e ↦ (let f : x ≡ length l = omega arith in subst₂ Tied (sym (seam h o nothing x e)) (sym (seam l r d x f)) new)
           | no ne ↦ (
               let past = List·getD-eq-default (h ++ (o ∷ [])) nothing {n = x} (omega (arith, length-append h (o ∷ []))) in
-              λ k. absurd (quiet-read (ap (λ (s : Step). s .kind) (sym past) ∙ k)))
+              λ k. absurd (quiet-read (ap (λ (s : Step words). s .kind) (sym past) ∙ k)))
         ]
       ]
 

@@ -26,7 +26,7 @@ use Rattle.table.specs.Rules.{refusal, messageOf, outcome, bringRule, done, unl
 use Rattle.table.specs.SetUp.{setUpRule}
 use Rattle.table.specs.Table.{recordOf, putBack}
 use Rattle.theory_promise.specs.Case.{script}
-use Rattle.theory_promise.specs.Operations.{run}
+use Rattle.theory_promise.specs.Operations.{words, run}
 use Rattle.theory_promise.specs.Played.{event, played}
 use Rattle.theory_promise.specs.Promise.{Demand3}
 
@@ -60,16 +60,16 @@ unfoldable pub leavesCopy : Record → Message → Record
 leavesCopy v m = cond (eqb (m .kind) 4 && v .served) (holds (brings v m) (m .cell) (cellAt (v .row) (m .cell))) (brings v m)
 
 -- ---- a run whose history has no order for desk p
-module _ (rule : Table → Event → Outcome) (keepers : List ℕ) (events : List Event) (h : List Step) (desks cells p : ℕ) where
+module _ (rule : Table → Event → Outcome) (keepers : List ℕ) (events : List Event) (h : List (Step words)) (desks cells p : ℕ) where
   broken : length keepers ≡ 32 → setUpRule desks cells keepers .code ≡ 0 → played rule desks cells keepers events .history ≡ h
       → ((l : List ℕ) → Order (listed h) p l → ⊥) → Demand3 rule → ⊥
   unfolding played
   broken long ok is none d =
       let x = d desks cells keepers long ok events p in
-      none (x .steps) (subst (λ (a : List Step). Order (listed a) p (x .steps)) is (x .order))
+      none (x .steps) (subst (λ (a : List (Step words)). Order (listed a) p (x .steps)) is (x .order))
 
 -- 01's whole case: desk 0 holds the blank datum of its first answer, sees coordinate 500, and reads the blank again.
-unfoldable pub first : List Step
+unfoldable pub first : List (Step words)
 first =
     nothing ∷ nothing ∷ nothing ∷ wrote 2 0 27 2 ∷ nothing ∷ nothing ∷ wrote 2 1 500 5 ∷ nothing ∷ showed 0 0 0 blank 0
     ∷ showed 0 1 500 (from 6) 9 ∷ showed 0 0 0 blank 10 ∷ nothing ∷ nothing ∷ []
@@ -86,7 +86,7 @@ keeps-served-breaks =
 -- Desk 0 keeps the datum and the coordinate, desk 1 a third cell. Desk 1 has a blank copy of the datum; desk 0 writes datum 11 and coordinate
 -- 12, and asks to write the third cell. Desk 1 overwrites the coordinate, still reads its blank, and then stores and reads the third cell and
 -- its own coordinate 14. What it read tells that 12 came before 14, and so 11 before the blank.
-unfoldable pub second : List Step
+unfoldable pub second : List (Step words)
 second =
     nothing ∷ nothing ∷ showed 1 0 0 blank 0 ∷ wrote 0 0 11 3 ∷ wrote 0 1 12 4 ∷ nothing ∷ nothing ∷ wrote 1 1 14 6 ∷ nothing
     ∷ showed 1 0 0 blank 9 ∷ wrote 0 2 13 5 ∷ showed 1 2 13 (from 10) 11 ∷ showed 1 1 14 (from 7) 12 ∷ []
@@ -111,7 +111,7 @@ drops-nothing-breaks =
 
 -- Desk 0 keeps cell 0 and desk 1 cell 1. Desk 1 writes 27 in cell 0 and then 28, and serves a write of desk 0's before the second answer,
 -- which carries 28, arrives; then it reads 27. (Said to come from 27 itself, it has no order either: `overwritten` in causal.)
-unfoldable pub third : List Step
+unfoldable pub third : List (Step words)
 third =
     nothing ∷ nothing ∷ wrote 1 0 27 1 ∷ nothing ∷ nothing ∷ wrote 1 0 28 4 ∷ wrote 0 1 5 0 ∷ nothing ∷ showed 1 0 27 (from 5) 8 ∷ []
 

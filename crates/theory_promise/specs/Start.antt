@@ -24,7 +24,7 @@ use Rattle.theory_lists.specs.Each.{mapAt, length-mapAt, getD-mapAt}
 use Rattle.theory_lists.specs.Part.{getD-slice}
 use Rattle.table.specs.SetUp.{freshCell, freshTable}
 use Rattle.table.specs.Table.{pastClock, pastSlot, keeperOf, recordOf}
-use Rattle.theory_promise.specs.Operations.{opened}
+use Rattle.theory_promise.specs.Operations.{words, opened}
 use Rattle.theory_promise.specs.State.{heldOf, cellOf, slotFor, state, held-cell, gone-cell, is-held}
 
 -- what the places of a list that is filled with one thing have in common with what stands past its end
@@ -56,7 +56,7 @@ zero-clock = fun-ext (λ j. zero-past 0 j zero-le)
 abbrev Blank : Cell → Type 0
 Blank x = (x .word ≡ 0) × Zero (x .stamp)
 
-blank-held : (x : Cell) (g : Held) → Blank x → cellOf x blank ≡ held g → g ≡ unwritten
+blank-held : (x : Cell) (g : Held words) → Blank x → cellOf x blank ≡ held g → g ≡ unwritten
 blank-held x g b e = is-held x blank g e .1 ∙ (λ i. record { source = blank; word = b .0 i; stamp = b .1 i })
 
 blank-contents : (x : Cell) → Blank x → causal.contents (cellOf x blank) ≡ unwritten

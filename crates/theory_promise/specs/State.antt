@@ -29,27 +29,27 @@ use Rattle.theory_lists.specs.Each.{getD-mapAt, length-mapAt}
 use Rattle.theory_lists.specs.Test.{fails, both, both-left, both-right}
 use Rattle.table.specs.declared.Table.{Table}
 use Rattle.table.specs.Table.{keeperOf, recordOf}
-use Rattle.theory_promise.specs.Operations.{Trail, Trails}
+use Rattle.theory_promise.specs.Operations.{words, Trail, Trails}
 
 -- ---- the state
-abbrev pub heldOf : Source → (word : ℕ) → Clock → Held
+abbrev pub heldOf : Source → (word : ℕ) → Clock → Held words
 heldOf s w k = record { source = s; word = w; stamp = number k }
 
-unfoldable pub cellOf : Cell → Source → machine.Cell
+unfoldable pub cellOf : Cell → Source → machine.Cell words
 cellOf x s = cond (x .held) (held (heldOf s (x .word) (x .stamp))) gone
 
 -- a slot of the kind given
-unfoldable pub slotFor : (kind : ℕ) → Slot → Source → machine.Slot
+unfoldable pub slotFor : (kind : ℕ) → Slot → Source → machine.Slot words
 slotFor zero s from-where = empty
 slotFor (suc zero) s from-where = read-asked (s .cell)
 slotFor (suc (suc zero)) s from-where = write-asked (s .cell) (s .word) (number (s .clock))
 slotFor (suc (suc (suc zero))) s from-where = read-answered (s .cell) (heldOf from-where (s .word) (s .clock))
 slotFor (suc (suc (suc (suc n)))) s from-where = write-answered (s .cell) (heldOf from-where (s .word) (s .clock))
 
-abbrev pub cellsOf : List Cell → (ℕ → Source) → ℕ → machine.Cell
+abbrev pub cellsOf : List Cell → (ℕ → Source) → ℕ → machine.Cell words
 cellsOf row source c = cellOf (cellAt row c) (source c)
 
-abbrev pub rowOf : Record → Trail → Desk
+abbrev pub rowOf : Record → Trail → Desk words
 rowOf v b = record {
   clock = number (v .clock);
   cells = cellsOf (v .row) (b .source);
@@ -58,10 +58,10 @@ rowOf v b = record {
   asked = b .asked;
 }
 
-abbrev pub rows : Table → Trails → ℕ → Desk
+abbrev pub rows : Table → Trails → ℕ → Desk words
 rows t g p = rowOf (recordOf t p) (g p)
 
-abbrev pub state : Table → Trails → State
+abbrev pub state : Table → Trails → State words
 state t g = causal.table (keeperOf t) (rows t g)
 
 pub row-is : (t : Table) (g : Trails) (q : ℕ) {v : Record} {b : Trail} → recordOf t q ≡ v → g q ≡ b → rows t g q ≡ rowOf v b
@@ -98,7 +98,7 @@ unfolding cellOf
 gone-cell x s e = rw e
 
 -- what is held in the machine is held in the table
-pub is-held : (x : Cell) (s : Source) (g : Held) → cellOf x s ≡ held g → (x .held ≡ true) × (g ≡ heldOf s (x .word) (x .stamp))
+pub is-held : (x : Cell) (s : Source) (g : Held words) → cellOf x s ≡ held g → (x .held ≡ true) × (g ≡ heldOf s (x .word) (x .stamp))
 unfolding cellOf
 is-held x s g e = go (x .held) refl
   where
@@ -147,14 +147,14 @@ held-in v r c e =
     ]
 
 -- ---- fates
-module _ (keeper : ℕ → ℕ) (rows : ℕ → Desk) (p : ℕ) (a : ℕ → ℕ) (new : ℕ → machine.Cell) where
+module _ (keeper : ℕ → ℕ) (rows : ℕ → Desk words) (p : ℕ) (a : ℕ → ℕ) (new : ℕ → machine.Cell words) where
   -- a cell that is as it was: a copy must not be strictly before what was learned
   pub fate-same : (b : ℕ) → new b ≡ rows p .cells b
-      → (keeper b ≢ p → (g : Held) → rows p .cells b ≡ held g → Earlier (g .stamp) a → ⊥) → causal.Fate keeper rows p a new b
+      → (keeper b ≢ p → (g : Held words) → rows p .cells b ≡ held g → Earlier (g .stamp) a → ⊥) → causal.Fate keeper rows p a new b
   fate-same b e late = elim (ℕ-discrete (keeper b) p) [ yes i ↦ causal.kept i e | no ne ↦ causal.stays ne e (late ne) ]
 
 -- a cell of a desk that learned clock k
-module _ (t : Table) (g : Trails) (p : ℕ) (r : RowRule (recordOf t p)) (k : Clock) (new : ℕ → machine.Cell) (b : ℕ) where
+module _ (t : Table) (g : Trails) (p : ℕ) (r : RowRule (recordOf t p)) (k : Clock) (new : ℕ → machine.Cell words) (b : ℕ) where
   pub fate-left : new b ≡ cellOf (leftAt (t .tray) p k b (cellAt (recordOf t p .row) b)) (g p .source b)
       → causal.Fate (keeperOf t) (rows t g) p (number k) new b
   unfolding recordOf isLost isCopy cellOf

@@ -6,7 +6,7 @@ use mathlib.Core.Logic.{_≢_}
 use Prim.Native.Nat.{ℕ, _<_}
 use native.Mathlib.Omega.{arith}
 use native.Mathlib.Decide.{ℕ-discrete}
-use Rattle.theory_causal.specs.History.{Step, wrote, Operation}
+use Rattle.theory_causal.specs.History.{Words, Step, wrote, Operation}
 use Rattle.theory_causal.specs.Facts.{Clock}
 use Rattle.theory_causal.specs.Machine.{merged, raised, Held, Cell, Slot, empty, Desk, State, Was, Brings, Own, forgets, asks-read}
 use Rattle.theory_causal.specs.Machine.{asks-write, answers, reads, brings-read, brings-write, Changes, OwnWrite, Take, Move}
@@ -19,11 +19,11 @@ use Rattle.theory_causal.specs.Invariants.Steps.{here, spread, quietly}
 use Rattle.theory_causal.specs.Invariants.Shows.{shows}
 use Rattle.theory_causal.specs.Invariants.Stows.{Stowed, stows}
 
-module _ {M : Moment} {S : State} (I : Inv M S) where
+module _ {W : Words} {M : Moment W} {S : State W} (I : Inv M S) where
   open Moment M using (history as H, know, now as t, own)
 
   -- ---- what is known of a desk by what it waits for
-  waits : (p : ℕ) {s : Slot} → S .desks p .slot ≡ s → Slotted M p (S .desks p .clock) (S .desks p .served) (S .desks p .asked) s
+  pub waits : (p : ℕ) {s : Slot W} → S .desks p .slot ≡ s → Slotted M p (S .desks p .clock) (S .desks p .served) (S .desks p .asked) s
   waits p e = subst (Slotted M p (S .desks p .clock) (S .desks p .served) (S .desks p .asked)) e (I .desks p .slot)
 
   level-of : (p : ℕ) → S .desks p .slot ≡ empty → Level M p (S .desks p .clock)
@@ -44,18 +44,18 @@ module _ {M : Moment} {S : State} (I : Inv M S) where
       record { genuine = l .genuine; fresh = λ w lt k f n. l .top w lt k f; still = λ off w lt k f n. l .top w lt k f }
 
   -- what becomes of the shelf
-  loses : (p : ℕ) {new : ℕ → Cell} → ((b : ℕ) → Was (S .desks p .cells) new b) → Shelf M (S .desks p .clock) new
+  loses : (p : ℕ) {new : ℕ → Cell W} → ((b : ℕ) → Was (S .desks p .cells) new b) → Shelf M (S .desks p .clock) new
   loses p was = let s = I .desks p .shelf in record { good = s .good; copies = λ c g h. s .copies c g (was c g h) }
 
-  brings : (p c : ℕ) {g : Held} {new : ℕ → Cell} → Answer M p (S .desks p .clock) (S .desks p .served) c g
+  brings : (p c : ℕ) {g : Held W} {new : ℕ → Cell W} → Answer M p (S .desks p .clock) (S .desks p .served) c g
       → Brings (S .last) (S .desks p) c g new
       → Shelf M (merged (S .desks p .clock) (g .stamp)) new
   brings p c r b =
       shelf-learns I c (I .desks p .shelf) (r .genuine) (b .was) (b .spared) (λ h e. let (i, off) = b .named h e in (i, r .still off))
 
-  module _ (S' : State) where
+  module _ (S' : State W) where
     -- ---- moves of one desk
-    keeps-own : (p : ℕ) {d : Desk} {o : Step} {a : Clock} → Own t p (S .last) (S .desks p) d o a
+    keeps-own : (p : ℕ) {d : Desk W} {o : Step W} {a : Clock} → Own t p (S .last) (S .desks p) d o a
         → H t ≡ o → know t ≡ taught own (o .desk) a (o .desk) → Changes S S' p d → Inv (later M (taught own (o .desk) a)) S'
     unfolding Slotted
     keeps-own p (forgets new was) e k = quietly I S' e p _ (record { shelf = loses p was; slot = I .desks p .slot })
@@ -83,7 +83,7 @@ module _ {M : Moment} {S : State} (I : Inv M S) where
         quietly I S' e p _ (record { shelf = brings p c r b; slot = l })
 
     -- ---- writes
-    keeps-write : (p c w : ℕ) (new : ℕ → Cell) → OwnWrite t S S' p c w new → H t ≡ wrote p c w t
+    keeps-write : (p c : ℕ) (w : W .Word) (new : ℕ → Cell W) → OwnWrite t S S' p c w new → H t ≡ wrote p c w t
         → know t ≡ taught own p (raised p (S .desks p .clock)) p → Inv (later M (taught own p (raised p (S .desks p .clock)))) S'
     unfolding Slotted
     keeps-write p c w new m e k =
@@ -99,7 +99,7 @@ module _ {M : Moment} {S : State} (I : Inv M S) where
             (λ b g ne h x lt i f n.
             I .desks p .shelf .copies b g (m .stores .was b ne g h) .fresh x lt i f (raised-knows I p l x lt (i .0) n))
 
-    keeps-take : (k p c w : ℕ) (sent : Clock) (new : ℕ → Cell) (on : Bool) → Take t S S' k p c w sent new on
+    keeps-take : (k p c : ℕ) (w : W .Word) (sent : Clock) (new : ℕ → Cell W) (on : Bool) → Take t S S' k p c w sent new on
         → H t ≡ wrote p c w (S .desks p .asked) → know t ≡ taught own p (merged (S .desks k .clock) sent) p
         → Inv (later M (taught own p (merged (S .desks k .clock) sent))) S'
     unfolding Slotted
@@ -108,7 +108,7 @@ module _ {M : Moment} {S : State} (I : Inv M S) where
         n : Clock
         n = merged (S .desks k .clock) sent
 
-        N : Moment
+        N : Moment W
         N = later M (taught own p n)
 
         kp : k ≢ p
@@ -147,7 +147,7 @@ module _ {M : Moment} {S : State} (I : Inv M S) where
               ]
             ]
 
-    pub keeps : {o : Step} {a : Clock} → Move t S S' o a → H t ≡ o → know t ≡ taught own (o .desk) a (o .desk)
+    pub keeps : {o : Step W} {a : Clock} → Move t S S' o a → H t ≡ o → know t ≡ taught own (o .desk) a (o .desk)
         → Inv (later M (taught own (o .desk) a)) S'
     keeps (alone p m change) e k = keeps-own p m e k change
     keeps (writes p c w new m) e k = keeps-write p c w new m e k

@@ -3,7 +3,7 @@
 use mathlib.Core.Path.{_≡_, sym, ap, subst, _∙_}
 use Prim.Native.Nat.{ℕ, _≤_, _<_}
 use native.Mathlib.Omega.{arith}
-use Rattle.theory_causal.specs.History.{write, Step, showed, Operation}
+use Rattle.theory_causal.specs.History.{Words, write, Step, showed, Operation}
 use Rattle.theory_causal.specs.Facts.{Clock, _≼_, Fresh, Came, Told}
 use Rattle.theory_causal.specs.Machine.{merged, Held, empty, Desk, State, Changes}
 use Rattle.theory_causal.specs.Invariants.{Moment, Genuine, Good, Shelf, Level, Slotted, Fine, Inv}
@@ -12,7 +12,7 @@ use Rattle.theory_causal.specs.Invariants.Passing.{taught, taught-self, 
 use Rattle.theory_causal.specs.Invariants.Steps.{tell, spread, lasts-next, others-fine, does}
 
 -- Desk p, which then waits no longer, reads g from cell c, asked at step a.
-module _ {M : Moment} {S : State} (I : Inv M S) (S' : State) (p c a : ℕ) (g : Held) (d : Desk) where
+module _ {W : Words} {M : Moment W} {S : State W} (I : Inv M S) (S' : State W) (p c a : ℕ) (g : Held W) (d : Desk W) where
   open Moment M using (history as H, know, now as t, own)
 
   pub shows : H t ≡ showed p c (g .word) (g .source) a → know t ≡ taught own p (g .stamp) p
@@ -27,10 +27,10 @@ module _ {M : Moment} {S : State} (I : Inv M S) (S' : State) (p c a : ℕ) (g : 
       (lasts-next I S' none (change .last))
     where
       by : H t .desk ≡ p
-      by = ap (λ (x : Step). x .desk) e
+      by = ap (λ (x : Step W). x .desk) e
 
       none : H t .kind ≡ write → ⊥
-      none w = let z : _≡_ {A = ℕ} 0 1 = cc (ap (λ (x : Step). x .kind) e) in omega arith
+      none w = let z : _≡_ {A = ℕ} 0 1 = cc (ap (λ (x : Step W). x .kind) e) in omega arith
 
       s : Passes M (taught own p (g .stamp))
       s = record { up = taught-grows own p (g .stamp); new = λ w. absurd (none w) }

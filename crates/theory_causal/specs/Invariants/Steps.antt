@@ -6,7 +6,7 @@ use Prim.Native.Nat.{ℕ, _≤_, _<_}
 use native.Mathlib.Nat.{le-trans}
 use native.Mathlib.Omega.{arith}
 use native.Mathlib.Decide.{ℕ-discrete}
-use Rattle.theory_causal.specs.History.{write, read, Step, nothing, Operation, Writes}
+use Rattle.theory_causal.specs.History.{Words, write, read, Step, nothing, Operation, Writes}
 use Rattle.theory_causal.specs.Facts.{Clock, _≼_, zeros, Closed, Came, Told, writing}
 use Rattle.theory_causal.specs.Machine.{Desk, State, Changes}
 use Rattle.theory_causal.specs.Invariants.{Moment, Last, Good, Fine, Inv}
@@ -14,7 +14,7 @@ use Rattle.theory_causal.specs.Invariants.Learned.{good-merged}
 use Rattle.theory_causal.specs.Invariants.Passing.{taught, taught-self, taught-other, taught-zeros, later, passing, last-next}
 use Rattle.theory_causal.specs.Invariants.Passing.{Passes, good-next, fine-next}
 
-module _ {M : Moment} {S : State} (I : Inv M S) where
+module _ {W : Words} {M : Moment W} {S : State W} (I : Inv M S) where
   open Moment M using (history as H, know, now as t, own)
 
   -- ---- the facts of an operation of desk p at this step
@@ -37,14 +37,14 @@ module _ {M : Moment} {S : State} (I : Inv M S) where
       → Fine (later M after) q (S .desks q)
   bystander s q same idle = fine-next s q same (I .owns q) idle (I .desks q)
 
-module _ {M : Moment} {S : State} (I : Inv M S) (S' : State) where
+module _ {W : Words} {M : Moment W} {S : State W} (I : Inv M S) (S' : State W) where
   open Moment M using (history as H, know, now as t, own)
 
   -- ---- a desk that changed, and all where one did
-  pub here : {N : Moment} {p q : ℕ} {d : Desk} → q ≡ p → S' .desks p ≡ d → Fine N p d → Fine N q (S' .desks q)
+  pub here : {N : Moment W} {p q : ℕ} {d : Desk W} → q ≡ p → S' .desks p ≡ d → Fine N p d → Fine N q (S' .desks q)
   here {N} {p} i e f = subst (λ (z : ℕ). Fine N z (S' .desks z)) (sym i) (subst (Fine N p) (sym e) f)
 
-  pub spread : {N : Moment} (p : ℕ) {d : Desk} → S' .desks p ≡ d → ((q : ℕ) → q ≢ p → S' .desks q ≡ S .desks q) → Fine N p d
+  pub spread : {N : Moment W} (p : ℕ) {d : Desk W} → S' .desks p ≡ d → ((q : ℕ) → q ≢ p → S' .desks q ≡ S .desks q) → Fine N p d
       → ((q : ℕ) → q ≢ p → Fine N q (S .desks q)) → (q : ℕ) → Fine N q (S' .desks q)
   spread p row rest f others q = elim (ℕ-discrete q p) [ yes i ↦ here i row f | no ne ↦ here refl (rest q ne) (others q ne) ]
 
@@ -70,7 +70,7 @@ module _ {M : Moment} {S : State} (I : Inv M S) (S' : State) where
   }
 
   -- a step with no operation
-  pub quietly : H t ≡ nothing → (p : ℕ) (d : Desk) → Fine M p d → Changes S S' p d → Inv (later M (taught own 0 zeros)) S'
+  pub quietly : H t ≡ nothing → (p : ℕ) (d : Desk W) → Fine M p d → Changes S S' p d → Inv (later M (taught own 0 zeros)) S'
   quietly e p d f c =
       rw taught-zeros
       (inv-next s (λ o. absurd (none o)) (λ o. absurd (none o)) (λ o. absurd (none o))
@@ -80,7 +80,7 @@ module _ {M : Moment} {S : State} (I : Inv M S) (S' : State) where
       (lasts-next (λ k. none (writing H k)) (c .last)))
     where
       none : Operation H t → ⊥
-      none o = o (ap (λ (x : Step). x .kind) e)
+      none o = o (ap (λ (x : Step W). x .kind) e)
 
       s : Passes M own
       s = record { up = λ q j. omega arith; new = λ k. absurd (none (writing H k)) }

@@ -6,7 +6,7 @@ use mathlib.Core.Logic.{_≢_}
 use Prim.Native.Nat.{ℕ, _≤_, _<_}
 use native.Mathlib.Omega.{arith}
 use native.Mathlib.Decide.{decLt, ℕ-discrete}
-use Rattle.theory_causal.specs.History.{Source, blank, from, Step, wrote, Operation, Writes, wordOf}
+use Rattle.theory_causal.specs.History.{Words, Source, blank, from, Step, wrote, Operation, Writes, wordOf}
 use Rattle.theory_causal.specs.Facts.{Clock, _≼_, stampOf, Stored, After, Fresh, Told, writing}
 use Rattle.theory_causal.specs.Machine.{Held, Cell, held, write-answered, State, stored, answered, Stores}
 use Rattle.theory_causal.specs.Invariants.{Moment, Genuine, Last, Copy, Good, Shelf, Level, Sent, Answer, Slotted, Fine, Inv}
@@ -16,11 +16,11 @@ use Rattle.theory_causal.specs.Invariants.Passing.{last-next, Passes, sh
 use Rattle.theory_causal.specs.Invariants.Steps.{tell, others-fine, does}
 
 -- ---- what was stored before in a cell is known to what stands last in it
-module _ {M : Moment} {S : State} (I : Inv M S) (c : ℕ) where
+module _ {W : Words} {M : Moment W} {S : State W} (I : Inv M S) (c : ℕ) where
   open Moment M using (history as H, know, now as t, own)
 
-  known-source : (s : Source) → Stored H know t c s → ((x : ℕ) → x < t → Writes H c x → After H know s x → ⊥)
-      → (y : ℕ) → y < t → Writes H c y → know y ≼ stampOf H know s
+  known-source : (s : Source) → Stored H t c s → ((x : ℕ) → x < t → Writes H c x → After s x → ⊥)
+      → (y : ℕ) → y < t → Writes H c y → know y ≼ stampOf know s
   unfolding Stored stampOf After
   known-source blank h top y lt i = absurd (top y lt i tt)
   known-source (from v) h top y lt i =
@@ -36,7 +36,7 @@ module _ {M : Moment} {S : State} (I : Inv M S) (c : ℕ) where
   known-last y lt i = let l = I .lasts c in rw (l .genuine .stamp) (known-source (S .last c .source) (l .genuine .stored) (l .top) y lt i)
 
 -- Once desk p's write of cell c is stored with stamp n, and the keeper's cells are `new`.
-pub record Stowed (M : Moment) (S S' : State) (p c w : ℕ) (n : Clock) (new : ℕ → Cell) : Type 0 where
+pub record Stowed {W : Words} (M : Moment W) (S S' : State W) (p c : ℕ) (w : W .Word) (n : Clock) (new : ℕ → Cell W) : Type 0 where
   pub shelf : Shelf (later M (taught (M .own) p n)) n new
   pub level : Level (later M (taught (M .own) p n)) p n
   pub rest : (q : ℕ) → q ≢ p → Fine (later M (taught (M .own) p n)) q (S .desks q)
@@ -44,14 +44,14 @@ pub record Stowed (M : Moment) (S S' : State) (p c w : ℕ) (n : Clock) (new : �
   pub done : ((q : ℕ) → Fine (later M (taught (M .own) p n)) q (S' .desks q)) → Inv (later M (taught (M .own) p n)) S'
 
 -- Desk k stores desk p's write of word w in cell c, asked at step a; the stamp n is k's new clock.
-module _ {M : Moment} {S : State} (I : Inv M S) (S' : State) (k p c w a : ℕ) (n : Clock)
-    {learned : Clock} {new : ℕ → Cell} {on : Bool} where
+module _ {W : Words} {M : Moment W} {S : State W} (I : Inv M S) (S' : State W) (k p c : ℕ) (w : W .Word) (a : ℕ) (n : Clock)
+    {learned : Clock} {new : ℕ → Cell W} {on : Bool} where
   open Moment M using (history as H, know, now as t, own)
 
   pub stows : H t ≡ wrote p c w a → know t ≡ taught own p n p → Sent M p n → S .desks k .clock ≼ n
       → Stores S S' k c (stored t w n) learned new on
       → a ≤ t → ((y : ℕ) → y < t → Operation H y → H y .desk ≡ p → H y .asked < a)
-      → ((b : ℕ) (g : Held) → b ≢ c → new b ≡ held g → Fresh H know t b (g .source) n) → Stowed M S S' p c w n new
+      → ((b : ℕ) (g : Held W) → b ≢ c → new b ≡ held g → Fresh H know t b (g .source) n) → Stowed M S S' p c w n new
   unfolding Slotted Stored stampOf wordOf After
   stows e k-t sent grown st le asks fresh = record {
     shelf = record { good = good; copies = λ b g h. elim (ℕ-discrete b c) [ yes i ↦ same b g i h | no ne ↦ other b g ne h ] };
@@ -65,10 +65,10 @@ module _ {M : Moment} {S : State} (I : Inv M S) (S' : State) (k p c w a : ℕ) (
       after = taught own p n
 
       by : H t .desk ≡ p
-      by = ap (λ (x : Step). x .desk) e
+      by = ap (λ (x : Step W). x .desk) e
 
       of-cell : Writes H c t
-      of-cell = (ap (λ (x : Step). x .kind) e, ap (λ (x : Step). x .cell) e)
+      of-cell = (ap (λ (x : Step W). x .kind) e, ap (λ (x : Step W). x .cell) e)
 
       elsewhere : (b : ℕ) → b ≢ c → Writes H b t → ⊥
       elsewhere b ne i = ne (sym (i .1) ∙ of-cell .1)
@@ -94,7 +94,7 @@ module _ {M : Moment} {S : State} (I : Inv M S) (S' : State) (k p c w a : ℕ) (
 
       -- what was stored now: nothing is after it
       genuine : Genuine (later M after) c (stored t w n)
-      genuine = record { stored = (omega arith, of-cell); stamp = sym stamp; word = sym (ap (λ (x : Step). x .word) e) }
+      genuine = record { stored = (omega arith, of-cell); stamp = sym stamp; word = sym (ap (λ (x : Step W). x .word) e) }
 
       last : (b : ℕ) → b ≡ c → Last (later M after) b (S' .last b)
       last b i =
@@ -111,7 +111,7 @@ module _ {M : Moment} {S : State} (I : Inv M S) (S' : State) (k p c w a : ℕ) (
       answer : Answer (later M after) p (S .desks p .clock) (S .desks p .served) c (stored t w n)
       answer = record { genuine = genuine; fresh = λ x lt i f m. omega arith; still = λ off x lt i f m. omega arith }
 
-      same : (b : ℕ) (g : Held) → b ≡ c → new b ≡ held g → Copy (later M after) n b g
+      same : (b : ℕ) (g : Held W) → b ≡ c → new b ≡ held g → Copy (later M after) n b g
       same b g i h =
           let holds = st .holds in
           let put : g ≡ stored t w n = cc in
@@ -119,7 +119,7 @@ module _ {M : Moment} {S : State} (I : Inv M S) (S' : State) (k p c w a : ℕ) (
           record { genuine = genuine; under = λ j. omega arith; fresh = λ x lt y f m. omega arith }
 
       -- the keeper's other cells
-      other : (b : ℕ) (g : Held) → b ≢ c → new b ≡ held g → Copy (later M after) n b g
+      other : (b : ℕ) (g : Held W) → b ≢ c → new b ≡ held g → Copy (later M after) n b g
       other b g ne h =
           let copy = I .desks k .shelf .copies b g (st .was b ne g h) in
           record {

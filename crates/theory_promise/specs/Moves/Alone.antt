@@ -26,7 +26,7 @@ use Rattle.table.specs.declared.Table.{Table}
 use Rattle.table.specs.Rows.{row-length}
 use Rattle.table.specs.Table.{keeperOf, recordOf, putBack}
 use Rattle.theory_promise.specs.Moves.{Moved, Becomes, alone-moved}
-use Rattle.theory_promise.specs.Operations.{Trail, Trails, holding, waiting}
+use Rattle.theory_promise.specs.Operations.{words, Trail, Trails, holding, waiting}
 use Rattle.theory_promise.specs.Room.{Room, Fits, as-it-is, put-here, put-there, put-room}
 use Rattle.theory_promise.specs.State.{heldOf, cellOf, slotFor, cellsOf, rows, row-is, empty-slot, raised-numbers, held-cell}
 use Rattle.theory_promise.specs.State.{set-here, set-there, fate-same}
@@ -63,7 +63,7 @@ module _ (n : ℕ) (t : Table) (g : Trails) (z : Room t) (p : ℕ) (there : p < 
       elsewhere : (b : ℕ) → b ≢ c → cellsOf (set row c noCell) (g p .source) b ≡ cellsOf row (g p .source) b
       elsewhere b nc = ap (λ (x : Cell). cellOf x (g p .source b)) (getD-set-other row c b noCell pastEnd nc)
 
-      not-here : (k : Held) → cellsOf (set row c noCell) (g p .source) c ≡ held k → ⊥
+      not-here : (k : Held words) → cellsOf (set row c noCell) (g p .source) c ≡ held k → ⊥
       not-here k i =
           let here = ap (λ (x : Cell). cellOf x (g p .source c)) (getD-set-same row c noCell pastEnd (omega (arith, long))) in
           let z : _≡_ {A = ℕ} 0 1 = cc in
@@ -135,7 +135,7 @@ module _ (n : ℕ) (t : Table) (g : Trails) (z : Room t) (p : ℕ) (there : p < 
               (λ _ k e. never (k .stamp)))
               (row-is (putBack t after) g' p (put-here t z p there after fits) (changed-here g p b)
               ∙ ap (λ (k : ℕ → ℕ). machine.storing (rows t g p) (machine.stored n w k) new (recordOf t p .served)) up)
-              (λ q ne. ap (λ (d : machine.Desk). d .cells) (rest q ne));
+              (λ q ne. ap (λ (d : machine.Desk words). d .cells) (rest q ne));
           rest = rest;
         };
       }
@@ -152,7 +152,7 @@ module _ (n : ℕ) (t : Table) (g : Trails) (z : Room t) (p : ℕ) (there : p < 
           g' : Trails
           g' = changed g p b
 
-          new : ℕ → machine.Cell
+          new : ℕ → machine.Cell words
           new = cellsOf (set row c cell) (b .source)
 
           long : length row ≡ 32

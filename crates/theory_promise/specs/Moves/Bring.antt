@@ -26,7 +26,7 @@ use Rattle.table.specs.declared.Table.{Table}
 use Rattle.table.specs.Rows.{row-length}
 use Rattle.table.specs.Table.{keeperOf, recordOf, putBack}
 use Rattle.theory_promise.specs.Moves.{Moved, Becomes, alone-moved}
-use Rattle.theory_promise.specs.Operations.{Trail, Trails, holding}
+use Rattle.theory_promise.specs.Operations.{words, Trail, Trails, holding}
 use Rattle.theory_promise.specs.Room.{Room}
 use Rattle.theory_promise.specs.State.{heldOf, cellOf, slotFor, cellsOf, rows, state, merged-numbers}
 use Rattle.theory_promise.specs.State.{set-here, set-there, left-at, fate-left}
@@ -58,13 +58,13 @@ module _ (n : ℕ) (t : Table) (g : Trails) (z : Room t) (p : ℕ) (there : p < 
   abbrev v : Record
   v = recordOf t p
 
-  abbrev answer : Held
+  abbrev answer : Held words
   answer = heldOf (g p .answer) (m .word) (m .clock)
 
   abbrev b : Trail
   b = holding (g p) (m .cell) (g p .answer)
 
-  abbrev new : ℕ → machine.Cell
+  abbrev new : ℕ → machine.Cell words
   new = cellsOf (home v m .row) (b .source)
 
   as-long : length (left v m) ≡ length (v .row)
@@ -94,7 +94,7 @@ module _ (n : ℕ) (t : Table) (g : Trails) (z : Room t) (p : ℕ) (there : p < 
       go false i e = (cc, i)
 
   -- whether a read or a write was answered
-  home-moved : {o : Step} {a : ℕ → ℕ}
+  home-moved : {o : Step words} {a : ℕ → ℕ}
       → (machine.Brings (state t g .last) (rows t g p) (m .cell) answer new
       → Becomes n t g p (machine.brought (rows t g p) (number (m .clock)) new) o a)
       → Moved n t g (putBack t (home v m)) (changed g p b) o

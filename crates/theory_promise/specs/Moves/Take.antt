@@ -27,7 +27,7 @@ use Rattle.table.specs.declared.Table.{Table}
 use Rattle.table.specs.Rows.{row-length}
 use Rattle.table.specs.Table.{keeperOf, recordOf, putBack, withSlotOf}
 use Rattle.theory_promise.specs.Moves.{Moved}
-use Rattle.theory_promise.specs.Operations.{Trail, Trails, holding, answered}
+use Rattle.theory_promise.specs.Operations.{words, Trail, Trails, holding, answered}
 use Rattle.theory_promise.specs.Room.{Room, Fits, as-it-is, Two, taken-room, taken-keeper, taken-asker, taken-rest}
 use Rattle.theory_promise.specs.State.{heldOf, cellOf, slotFor, cellsOf, rows, state, row-is, empty-slot, merged-numbers, held-cell}
 use Rattle.theory_promise.specs.State.{set-here, set-there, left-at, fate-left}
@@ -60,7 +60,7 @@ module _ (n : ℕ) (t : Table) (g : Trails) (z : Room t) (k p : ℕ) (two : Two 
   v = recordOf t k
 
   -- what the keeper holds
-  abbrev it : Held
+  abbrev it : Held words
   it = heldOf (g k .source (m .cell)) (cellAt (v .row) (m .cell) .word) (cellAt (v .row) (m .cell) .stamp)
 
   holds-it : rows t g k .cells (m .cell) ≡ held it
@@ -80,7 +80,7 @@ module _ (n : ℕ) (t : Table) (g : Trails) (z : Room t) (k p : ℕ) (two : Two 
         alone p (answers (m .cell) e)
         (causal.changes (keeperOf t) (rows t g) (rows after (changed g p b)) p
         (row-is after (changed g p b) p (taken-asker t z two v fits read-answer) (changed-here g p b)
-        ∙ ap (λ (x : Held). machine.answered (rows t g p) (read-answered (m .cell) x)) last)
+        ∙ ap (λ (x : Held words). machine.answered (rows t g p) (read-answered (m .cell) x)) last)
         (λ q ne. row-is after (changed g p b) q (same q ne) (changed-elsewhere g p b q ne))
         (λ c i. refl));
   }
@@ -108,10 +108,10 @@ module _ (n : ℕ) (t : Table) (g : Trails) (z : Room t) (k p : ℕ) (two : Two 
   abbrev write-answer : Slot
   write-answer = record { kind = 4; cell = m .cell; word = m .word; clock = kept v m .clock }
 
-  abbrev stamped : Held
+  abbrev stamped : Held words
   stamped = machine.stored n (m .word) (machine.merged (number (v .clock)) (number (m .clock)))
 
-  abbrev new : ℕ → machine.Cell
+  abbrev new : ℕ → machine.Cell words
   new = cellsOf (kept v m .row) (changed (g k .source) (m .cell) (from n))
 
   as-long : length (left v m) ≡ length (v .row)
@@ -195,6 +195,6 @@ module _ (n : ℕ) (t : Table) (g : Trails) (z : Room t) (k p : ℕ) (two : Two 
       cells : (q : ℕ) → q ≢ k → rows after g' q .cells ≡ rows t g q .cells
       cells q nk =
           elim (ℕ-discrete q p) [
-            | yes e ↦ rw e (ap (λ (d : machine.Desk). d .cells) asker)
-            | no np ↦ ap (λ (d : machine.Desk). d .cells) (rest q nk np)
+            | yes e ↦ rw e (ap (λ (d : machine.Desk words). d .cells) asker)
+            | no np ↦ ap (λ (d : machine.Desk words). d .cells) (rest q nk np)
           ]
