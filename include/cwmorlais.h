@@ -1,4 +1,4 @@
-/* Cwmorlais: 1 to 8 desks share 1 to 32 cells, each cell kept by one desk. Link with target/staticlib/liblent.a (x86-64).
+/* Cwmorlais: 1 to 8 desks share 1 to 32 cells, each cell kept by one desk. Link with target/staticlib/libcwmorlais.a (x86-64).
  *
  * A desk's program has the desk's record and the frames, and sends the frames itself. A program that plays all desks in one place has the
  * table instead. Every function is proved to do what docs/PROMISES.md says, on every input. What a caller owes is what C cannot say:
@@ -6,6 +6,9 @@
  *     function returns; what is const is only read;
  *   - a bool is 0 or 1, also in a record or a table that was read from a file.
  * Nothing is kept and nothing is freed. Bytes between fields have no meaning: compare field by field.
+ *
+ * A later version appends fields to a struct, small ones where its padding is: each field keeps its place in its struct, but structs may
+ * grow, so compile with the header that came with the library.
  *
  * A code of 8 and more is a refusal: the rest of the answer is zero, and what was lent is as it was. Each function lists its refusals in the
  * order in which it looks:
@@ -51,31 +54,51 @@ typedef struct {
     cwmorlais_clock clock;
 } cwmorlais_slot;
 
-/* How many desks (1 to 8) and cells (1 to 32), and each cell's keeper; those past the cell count are 0. */
+/* A cell's place in the tray: the desk that keeps it. */
+typedef struct {
+    uint8_t keeper;
+} cwmorlais_place;
+
+/* How many desks (1 to 8) and cells (1 to 32). */
 typedef struct {
     uint8_t desks;
     uint8_t cells;
-    uint8_t keepers[32];
+} cwmorlais_counts;
+
+/* What all desks know from the start. Places past the cell count are all zero. */
+typedef struct {
+    cwmorlais_counts counts;
+    cwmorlais_place places[32];
 } cwmorlais_tray;
 
-/* A desk's record. served: the desk served a write while it waited, so it must not keep the answer. */
+/* What a desk has beside its cells. served: the desk served a write while it waited, so it must not keep the answer. */
+typedef struct {
+    cwmorlais_clock clock;
+    cwmorlais_slot slot;
+    bool served;
+} cwmorlais_seat;
+
+/* A desk's record. */
 typedef struct {
     cwmorlais_tray tray;
     uint8_t desk;
-    cwmorlais_clock clock;
+    cwmorlais_seat seat;
     cwmorlais_cell row[32];
-    cwmorlais_slot slot;
-    bool served;
 } cwmorlais_record;
 
 /* All desks, with their messages under way in the slots. Desk d's cell c is cells[d * 32 + c]. */
 typedef struct {
-    cwmorlais_tray tray;
-    cwmorlais_clock clocks[8];
-    cwmorlais_slot slots[8];
-    bool served[8];
     cwmorlais_cell cells[256];
+    cwmorlais_tray tray;
+    cwmorlais_seat seats[8];
 } cwmorlais_table;
+
+/* All that set-up and start are told, in any numbers. Keepers past the cell count are ignored. */
+typedef struct {
+    uint32_t desks;
+    uint32_t cells;
+    uint32_t keepers[32];
+} cwmorlais_plan;
 
 /* Kinds 1 read (cell), 2 write (cell, word), 3 take, 4 bring, 5 drop (cell). Fields that a kind does not use are ignored. */
 typedef struct {
@@ -135,8 +158,8 @@ typedef struct {
 
 /* ---- One desk, over its record */
 
-/* A desk's fresh record. Keepers past the cell count are ignored. Refuses 20, 21, 22, 10. */
-cwmorlais_started cwmorlais_desk_start(uint32_t desks, uint32_t cells, const uint32_t keepers[32], uint32_t desk);
+/* A desk's fresh record. Refuses 20, 21, 22, 10. */
+cwmorlais_started cwmorlais_desk_start(cwmorlais_plan plan, uint32_t desk);
 
 /* The desk's user wants something: kind 1, 2 or 5, for the desk whose record is lent, whatever desk e names. With code 1 the message is the
  * request: send it to the cell's keeper. Refuses 9, 8, 11, 12, 14, 16. */
@@ -158,8 +181,8 @@ cwmorlais_written cwmorlais_frame_write(cwmorlais_message m, uint8_t *out, size_
 
 /* ---- All desks, over a table */
 
-/* A fresh table. Keepers past the cell count are ignored. Refuses 20, 21, 22. */
-cwmorlais_set_up cwmorlais_table_set_up(uint32_t desks, uint32_t cells, const uint32_t keepers[32]);
+/* A fresh table. Refuses 20, 21, 22. */
+cwmorlais_set_up cwmorlais_table_set_up(cwmorlais_plan plan);
 
 /* One event. Take: the keeper receives the request of e.desk. Bring: e.desk receives its answer. Refuses 9, 8, 10, 11, 12, 13, 14, 16. */
 cwmorlais_reply cwmorlais_table_event(cwmorlais_table *t, cwmorlais_event e);

@@ -7,7 +7,7 @@ use std::path::{Path, PathBuf};
 fn main() {
     println!("cargo::rerun-if-env-changed=CWMORLAIS_LIB");
     let folder = env::var_os("CWMORLAIS_LIB").map_or_else(usual, PathBuf::from);
-    let archive = folder.join("liblent.a");
+    let archive = folder.join("libcwmorlais.a");
     println!("cargo::rerun-if-changed={}", archive.display());
     if !archive.is_file() {
         println!(
@@ -17,7 +17,7 @@ fn main() {
         return;
     }
     println!("cargo::rustc-link-search=native={}", folder.display());
-    println!("cargo::rustc-link-lib=static=lent");
+    println!("cargo::rustc-link-lib=static=cwmorlais");
 }
 
 fn usual() -> PathBuf {

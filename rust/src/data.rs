@@ -256,6 +256,80 @@ impl Slot {
     }
 }
 
+/// One desk's row of the table.
+#[repr(C)]
+#[derive(Clone, Copy, Debug, Default, PartialEq, Eq)]
+pub struct Row {
+    /// The desk's clock.
+    pub clock: Clock,
+    /// The cells as the desk has them.
+    pub cells: [Cell; CELLS],
+    /// What the desk waits for. In a table asked or answered; in a record a request stays here
+    /// until its answer is brought.
+    pub slot: Slot,
+    /// Whether it served a write since it began to wait.
+    pub served: bool,
+}
+
+impl Row {
+    /// The row of a desk that is not there.
+    pub const UNUSED: Row = Row {
+        clock: Clock::ZERO,
+        cells: [Cell::NONE; CELLS],
+        slot: Slot::EMPTY,
+        served: false,
+    };
+
+    /// Makes an unused row this desk's, before its first event: it holds what it keeps.
+    pub(crate) fn begin(&mut self, tray: &Tray, desk: u8) {
+        for (cell, place) in self.cells.iter_mut().zip(tray.used_places()) {
+            cell.held = place.keeper == desk;
+        }
+    }
+}
+
+/// All that set-up is told, in any numbers.
+#[repr(C)]
+#[derive(Clone, Copy, Debug, Default, PartialEq, Eq)]
+pub struct Plan {
+    /// How many desks.
+    pub desks: u32,
+    /// How many cells.
+    pub cells: u32,
+    /// Each cell's keeper; those past the cell count are ignored.
+    pub keepers: [u32; CELLS],
+}
+
+impl Plan {
+    /// So many desks, and a cell for each of these keepers.
+    ///
+    /// # Panics
+    /// If these are more than there is room for.
+    #[must_use]
+    pub fn new(desks: u32, keepers: &[u32]) -> Plan {
+        let mut plan = Plan {
+            desks,
+            cells: keepers.len() as u32,
+            ..Plan::default()
+        };
+        plan.keepers[..keepers.len()].copy_from_slice(keepers);
+        plan
+    }
+}
+
+/// What all desks know of a cell from the start.
+#[repr(C)]
+#[derive(Clone, Copy, Debug, Default, PartialEq, Eq)]
+pub struct Place {
+    /// The desk that keeps it.
+    pub keeper: u8,
+}
+
+impl Place {
+    /// Where there is no cell.
+    pub const UNUSED: Place = Place { keeper: 0 };
+}
+
 /// What all desks know from the start: the counts, and who keeps which cell.
 #[repr(C)]
 #[derive(Clone, Copy, Debug, Default, PartialEq, Eq)]
@@ -264,40 +338,46 @@ pub struct Tray {
     pub desks: u8,
     /// How many cells, 1 to 32.
     pub cells: u8,
-    /// Each cell's keeper; 0 past the cell count.
-    pub keepers: [u8; CELLS],
+    /// The cells' places; unused past the cell count.
+    pub places: [Place; CELLS],
 }
 
 impl Tray {
-    /// A tray of these counts and keepers, or 20, 21 or 22. Keepers past the cell count are ignored.
-    pub fn new(desks: u32, cells: u32, keepers: &[u32; CELLS]) -> Result<Tray, Refusal> {
-        if !(1..=DESKS as u32).contains(&desks) {
+    /// The tray of this plan, or 20, 21 or 22.
+    pub fn new(plan: &Plan) -> Result<Tray, Refusal> {
+        if !(1..=DESKS as u32).contains(&plan.desks) {
             return Err(Refusal::SetupDesks);
         }
-        if !(1..=CELLS as u32).contains(&cells) {
+        if !(1..=CELLS as u32).contains(&plan.cells) {
             return Err(Refusal::SetupCells);
         }
         let mut tray = Tray {
-            desks: desks as u8,
-            cells: cells as u8,
-            keepers: [0; CELLS],
+            desks: plan.desks as u8,
+            cells: plan.cells as u8,
+            places: [Place::UNUSED; CELLS],
         };
-        for (to, &from) in tray.keepers.iter_mut().zip(&keepers[..cells as usize]) {
-            if from >= desks {
+        let keepers = &plan.keepers[..plan.cells as usize];
+        for (place, &keeper) in tray.places.iter_mut().zip(keepers) {
+            if keeper >= plan.desks {
                 return Err(Refusal::SetupKeeper);
             }
-            *to = from as u8;
+            place.keeper = keeper as u8;
         }
         Ok(tray)
     }
 
-    /// Counts in range, keepers desks, and 0 where there is no cell.
+    /// Counts in range, keepers desks, and nothing where there is no cell.
     pub(crate) fn is_sound(&self) -> bool {
-        let (desks, cells) = (self.desks as usize, self.cells as usize);
-        (1..=DESKS).contains(&desks)
+        let cells = self.cells as usize;
+        (1..=DESKS).contains(&(self.desks as usize))
             && (1..=CELLS).contains(&cells)
-            && self.keepers[..cells].iter().all(|&k| k < self.desks)
-            && self.keepers[cells..].iter().all(|&k| k == 0)
+            && self.used_places().iter().all(|p| p.keeper < self.desks)
+            && self.places[cells..].iter().all(|p| *p == Place::UNUSED)
+    }
+
+    /// The places of the cells there are, where the count is in range.
+    pub(crate) fn used_places(&self) -> &[Place] {
+        &self.places[..self.cells as usize]
     }
 
     /// The cells there are, as bits.
@@ -307,15 +387,15 @@ impl Tray {
 
     /// The cells that a desk keeps, as bits.
     pub(crate) fn kept_bits(&self, desk: u8) -> u32 {
-        let keepers = self.keepers.iter().enumerate();
-        let all = keepers.fold(0, |bits, (i, &keeper)| {
-            bits | u32::from(keeper == desk) << i
+        let places = self.places.iter().enumerate();
+        let all = places.fold(0, |bits, (i, place)| {
+            bits | u32::from(place.keeper == desk) << i
         });
         all & self.cell_bits()
     }
 
     /// Whether this desk keeps this cell; both may be any number.
     pub(crate) fn keeps(&self, desk: u8, cell: u8) -> bool {
-        cell < self.cells && self.keepers[cell as usize] == desk
+        cell < self.cells && self.places[cell as usize].keeper == desk
     }
 }

@@ -14,13 +14,13 @@ use crate::data::{code, kind, slot};
 use crate::gen::Rng;
 use crate::ghost::Ghost;
 use crate::history::{Broken, Causal, Does, History};
-use crate::{frame, Event, Message, Record, Refusal, Reply, Table, CELLS, DESKS};
+use crate::{frame, Event, Message, Plan, Record, Refusal, Reply, Table, DESKS};
 
 /// A desk's part and the frames, by whoever makes them. What is not said is done by the twin.
 pub trait Part {
     /// A fresh record, or the number of a refusal.
-    fn start(desks: u32, cells: u32, keepers: &[u32; CELLS], desk: u32) -> Result<Record, u32> {
-        Record::new(desks, cells, keepers, desk).map_err(number)
+    fn start(plan: &Plan, desk: u32) -> Result<Record, u32> {
+        Record::new(plan, desk).map_err(number)
     }
 
     /// Reads, writes or drops; code 1 comes with the request to send.
@@ -57,7 +57,7 @@ impl Part for Twin {}
 /// The table of all desks, by whoever makes it.
 pub trait Engine: Sized {
     /// A fresh table, or the number of a refusal.
-    fn set_up(desks: u32, cells: u32, keepers: &[u32; CELLS]) -> Result<Self, u32>;
+    fn set_up(plan: &Plan) -> Result<Self, u32>;
     /// Does one event.
     fn event(&mut self, event: &Event) -> Reply;
     /// What it holds now, as the twin has it.
@@ -65,8 +65,8 @@ pub trait Engine: Sized {
 }
 
 impl Engine for Table {
-    fn set_up(desks: u32, cells: u32, keepers: &[u32; CELLS]) -> Result<Table, u32> {
-        Table::new(desks, cells, keepers).map_err(number)
+    fn set_up(plan: &Plan) -> Result<Table, u32> {
+        Table::new(plan).map_err(number)
     }
 
     fn event(&mut self, event: &Event) -> Reply {
@@ -98,8 +98,8 @@ pub struct Step {
 
 /// What eight desks did.
 pub struct Run {
-    /// What set-up took.
-    pub keepers: [u32; CELLS],
+    /// What set-up was told.
+    pub plan: Plan,
     /// All steps in the order in which they took effect.
     pub steps: Vec<Step>,
     /// Frames sent.
@@ -128,7 +128,11 @@ type Frame = Vec<u8>;
 #[must_use]
 pub fn run<P: Part>(seed: u64, turns: usize) -> Run {
     let mut rng = Rng::new(seed);
-    let keepers: [u32; CELLS] = std::array::from_fn(|_| rng.below(DESKS as u32));
+    let plan = Plan {
+        desks: DESKS as u32,
+        cells: CELL_COUNT,
+        keepers: std::array::from_fn(|_| rng.below(DESKS as u32)),
+    };
     let next_step = AtomicU64::new(0);
     let busy = AtomicUsize::new(DESKS);
     let alarm = AtomicBool::new(false);
@@ -140,21 +144,20 @@ pub fn run<P: Part>(seed: u64, turns: usize) -> Run {
             .into_iter()
             .zip(0..)
             .map(|(inbox, desk)| {
-                let record = P::start(DESKS as u32, CELL_COUNT, &keepers, desk);
-                let seat = Seat {
-                    record: record.expect("a good set-up"),
+                let worker = Worker {
+                    record: P::start(&plan, desk).expect("a good set-up"),
                     rng: Rng::new(rng.bits()),
                     inbox,
                     senders: senders.clone(),
                     next_step: &next_step,
                     busy: &busy,
                     alarm: Alarm(&alarm),
-                    plan: VecDeque::new(),
+                    wants: VecDeque::new(),
                     words: 0,
                     log: Vec::new(),
                     frames: 0,
                 };
-                scope.spawn(move || seat.work::<P>(turns))
+                scope.spawn(move || worker.work::<P>(turns))
             })
             .collect();
         threads.into_iter().map(|thread| thread.join()).collect()
@@ -166,7 +169,7 @@ pub fn run<P: Part>(seed: u64, turns: usize) -> Run {
     let mut steps = logs.concat();
     steps.sort_by_key(|step| step.at);
     Run {
-        keepers,
+        plan,
         steps,
         frames: frames.iter().sum(),
     }
@@ -182,7 +185,7 @@ impl Drop for Alarm<'_> {
 }
 
 /// One desk at work.
-struct Seat<'a> {
+struct Worker<'a> {
     record: Record,
     rng: Rng,
     inbox: Receiver<Frame>,
@@ -192,20 +195,20 @@ struct Seat<'a> {
     busy: &'a AtomicUsize,
     alarm: Alarm<'a>,
     /// What its program wants to do next.
-    plan: VecDeque<Event>,
+    wants: VecDeque<Event>,
     /// Words written so far, so that no two writes of the run have the same.
     words: u32,
     log: Vec<Step>,
     frames: usize,
 }
 
-impl Seat<'_> {
+impl Worker<'_> {
     fn work<P: Part>(mut self, mut turns: usize) -> (Vec<Step>, usize) {
         let mut arrived: Vec<Frame> = Vec::new();
         let mut is_done = false;
         loop {
             arrived.extend(self.inbox.try_iter());
-            let waits = self.record.slot.kind != slot::EMPTY;
+            let waits = self.record.row.slot.kind != slot::EMPTY;
             if !arrived.is_empty() && self.rng.one_in(2) {
                 // Any of them, so that frames overtake each other.
                 let chosen = self.rng.index(arrived.len());
@@ -235,19 +238,19 @@ impl Seat<'_> {
     }
 
     fn act<P: Part>(&mut self) {
-        if self.plan.is_empty() {
-            self.make_plan();
+        if self.wants.is_empty() {
+            self.want_more();
         }
-        let event = self.plan[0];
+        let event = self.wants[0];
         let at = self.now();
         let (reply, request) = P::event(&mut self.record, &event);
         self.note(at, event, reply);
         if reply.code != Refusal::Waits as u32 {
-            self.plan.pop_front();
+            self.wants.pop_front();
         }
         if reply.code == code::ASKED {
-            let keeper = self.record.tray.keepers[usize::from(request.cell)];
-            self.send::<P>(keeper, &request);
+            let place = &self.record.tray.places[usize::from(request.cell)];
+            self.send::<P>(place.keeper, &request);
         } else {
             assert_eq!(request, Message::ZERO, "only a request is sent");
         }
@@ -299,7 +302,7 @@ impl Seat<'_> {
     }
 
     /// Each desk has its own program, made of a few habits.
-    fn make_plan(&mut self) {
+    fn want_more(&mut self) {
         let pair = self.rng.below(PAIRS);
         let (datum, coordinate) = (datum_of(pair), coordinate_of(pair));
         // By desk: measures, measures, copies, looks, looks, corrects, clears up, does anything.
@@ -312,41 +315,41 @@ impl Seat<'_> {
             _ => self.rng.below(5),
         };
         match habit {
-            0 => self.plan_writes(&[datum, coordinate]),
+            0 => self.want_writes(&[datum, coordinate]),
             1 => {
-                self.plan_reads(&[coordinate, datum]);
+                self.want_reads(&[coordinate, datum]);
                 let elsewhere = self.rng.below(PAIRS);
-                self.plan_writes(&[datum_of(elsewhere), coordinate_of(elsewhere)]);
+                self.want_writes(&[datum_of(elsewhere), coordinate_of(elsewhere)]);
             }
-            2 => self.plan_reads(&[coordinate, datum, datum]),
+            2 => self.want_reads(&[coordinate, datum, datum]),
             3 => {
-                self.plan_reads(&[coordinate, datum]);
-                self.plan_writes(&[datum, coordinate]);
+                self.want_reads(&[coordinate, datum]);
+                self.want_writes(&[datum, coordinate]);
             }
             _ => {
-                self.plan_reads(&[coordinate, datum]);
+                self.want_reads(&[coordinate, datum]);
                 let gone = self.rng.pick(&[datum, coordinate, CELL_COUNT]);
-                self.plan(kind::DROP, gone, 0);
+                self.want(kind::DROP, gone, 0);
             }
         }
     }
 
-    fn plan_reads(&mut self, cells: &[u32]) {
+    fn want_reads(&mut self, cells: &[u32]) {
         for &cell in cells {
-            self.plan(kind::READ, cell, 0);
+            self.want(kind::READ, cell, 0);
         }
     }
 
-    fn plan_writes(&mut self, cells: &[u32]) {
+    fn want_writes(&mut self, cells: &[u32]) {
         for &cell in cells {
             self.words += 1;
             let word = u32::from(self.record.desk) << 24 | self.words;
-            self.plan(kind::WRITE, cell, word);
+            self.want(kind::WRITE, cell, word);
         }
     }
 
-    fn plan(&mut self, kind: u32, cell: u32, word: u32) {
-        self.plan.push_back(Event {
+    fn want(&mut self, kind: u32, cell: u32, word: u32) {
+        self.wants.push_back(Event {
             kind,
             desk: self.record.desk.into(),
             cell,
@@ -388,12 +391,12 @@ impl AddAssign for Checked {
 ///   that the keeper had stored earlier than the newest of these.
 pub fn check<E: Engine>(run: &Run) -> Result<Checked, String> {
     let mut checked = Checked::default();
-    let mut engine = E::set_up(DESKS as u32, CELL_COUNT, &run.keepers)
-        .map_err(|refusal| format!("set-up refused: {refusal}"))?;
+    let mut engine =
+        E::set_up(&run.plan).map_err(|refusal| format!("set-up refused: {refusal}"))?;
     let mut ghost = Ghost::new(&engine.table().tray, None);
     for step in &run.steps {
         let is_take = step.event.kind == kind::TAKE;
-        let waits = step.after.slot.kind != slot::EMPTY;
+        let waits = step.after.row.slot.kind != slot::EMPTY;
         checked.served_waiting += usize::from(is_take && waits);
         let reply = engine.event(&step.event);
         if reply != step.reply || reply != ghost.event(&step.event) {
@@ -419,14 +422,14 @@ pub fn check<E: Engine>(run: &Run) -> Result<Checked, String> {
 }
 
 fn is_row_of(record: &Record, table: &Table) -> bool {
-    let mut row = table.record(record.desk);
-    let is_under_way = row.slot.is_answered()
-        && row.slot.kind == record.slot.kind + slot::ANSWER
-        && row.slot.cell == record.slot.cell;
+    let mut expected = table.record(record.desk);
+    let (there, here) = (&mut expected.row.slot, &record.row.slot);
+    let is_under_way =
+        there.is_answered() && there.kind == here.kind + slot::ANSWER && there.cell == here.cell;
     if is_under_way {
-        row.slot = record.slot;
+        *there = *here;
     }
-    row == *record
+    expected == *record
 }
 
 /// Counts the reads of a datum that the last rule of [`check`] is about, or names one that breaks

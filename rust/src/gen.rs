@@ -1,8 +1,9 @@
 //! Seeded, repeatable inputs: runs, sound and unsound tables and records, whole and damaged frames.
 
 use crate::data::{kind, slot};
-use crate::table::Row;
-use crate::{frame, Cell, Clock, Event, Message, Record, Slot, Table, Tray, CELLS, DESKS};
+use crate::{
+    frame, Cell, Clock, Event, Message, Place, Plan, Record, Row, Slot, Table, Tray, CELLS, DESKS,
+};
 
 /// A random generator (xorshift64*): the same seed gives the same numbers everywhere.
 #[derive(Clone, Debug)]
@@ -63,32 +64,35 @@ impl Rng {
     }
 }
 
-/// What set-up takes, good or (once in eight) not.
-pub fn setup(rng: &mut Rng) -> (u32, u32, [u32; CELLS]) {
-    let (desks, cells, mut keepers) = good_setup(rng, 1);
+/// What set-up is told, good or (once in eight) not.
+pub fn setup(rng: &mut Rng) -> Plan {
+    let mut plan = good_setup(rng, 1);
     match rng.below(32) {
-        0 => (rng.pick(&[0, 9, 255, 256, 257, u32::MAX]), cells, keepers),
-        1 => (desks, rng.pick(&[0, 33, 255, 256, 257, u32::MAX]), keepers),
+        0 => plan.desks = rng.pick(&[0, 9, 255, 256, 257, u32::MAX]),
+        1 => plan.cells = rng.pick(&[0, 33, 255, 256, 257, u32::MAX]),
         2 | 3 => {
             // Past the cell count this is ignored.
-            keepers[rng.index(CELLS)] =
-                desks + rng.pick(&[0, 1, 248, 256, u32::MAX - DESKS as u32]);
-            (desks, cells, keepers)
+            plan.keepers[rng.index(CELLS)] =
+                plan.desks + rng.pick(&[0, 1, 248, 256, u32::MAX - DESKS as u32]);
         }
-        _ => (desks, cells, keepers),
+        _ => {}
     }
+    plan
 }
 
-/// Counts and keepers that set-up accepts, with at least so many desks. Few cells are commoner:
-/// desks meet there.
-pub fn good_setup(rng: &mut Rng, least_desks: u32) -> (u32, u32, [u32; CELLS]) {
+/// A plan that set-up accepts, with at least so many desks. Few cells are commoner: desks meet
+/// there.
+pub fn good_setup(rng: &mut Rng, least_desks: u32) -> Plan {
     let desks = least_desks + rng.below(DESKS as u32 + 1 - least_desks);
     let cells = match rng.below(4) {
         0 => 1 + rng.below(CELLS as u32),
         _ => 1 + rng.below(6),
     };
-    let keepers = std::array::from_fn(|_| rng.below(desks));
-    (desks, cells, keepers)
+    Plan {
+        desks,
+        cells,
+        keepers: std::array::from_fn(|_| rng.below(desks)),
+    }
 }
 
 /// An event with any numbers, most of them near the counts.
@@ -181,20 +185,17 @@ impl Mood {
     }
 }
 
-/// A run on this tray as a script of exactly so many bytes, which are enough for the first lines.
-pub fn script(
-    rng: &mut Rng,
-    desks: u32,
-    cells: u32,
-    keepers: &[u32; CELLS],
-    bytes: usize,
-) -> String {
-    let mut table = Table::new(desks, cells, keepers).expect("a good set-up");
+/// A run of this plan as a script of exactly so many bytes, which are enough for the first lines.
+pub fn script(rng: &mut Rng, plan: &Plan, bytes: usize) -> String {
+    let mut table = Table::new(plan).expect("a good set-up");
     let mood = Mood::new(rng);
-    let kept: Vec<String> = keepers[..cells as usize]
-        .iter()
-        .map(u32::to_string)
-        .collect();
+    let Plan {
+        desks,
+        cells,
+        keepers,
+    } = plan;
+    let kept = keepers[..*cells as usize].iter().map(u32::to_string);
+    let kept: Vec<String> = kept.collect();
     let mut script = format!("{desks} {cells}\n{}\n", kept.join(" "));
     while script.len() < bytes {
         let event = mood.event_at(rng, &table);
@@ -230,8 +231,7 @@ const LONGEST_READ: usize = 17;
 
 /// A sound table, often one that no run reaches.
 pub fn table(rng: &mut Rng) -> Table {
-    let (desks, cells, keepers) = good_setup(rng, 1);
-    let mut table = Table::new(desks, cells, &keepers).expect("a good set-up");
+    let mut table = Table::new(&good_setup(rng, 1)).expect("a good set-up");
     if rng.one_in(2) {
         let mood = Mood::new(rng);
         for _ in 0..rng.below(60) {
@@ -241,8 +241,8 @@ pub fn table(rng: &mut Rng) -> Table {
         return table;
     }
     let tray = table.tray;
-    for (desk, row) in table.rows[..desks as usize].iter_mut().enumerate() {
-        *row = sound_row(rng, &tray, desk as u8);
+    for (row, desk) in table.rows.iter_mut().zip(0..tray.desks) {
+        *row = sound_row(rng, &tray, desk);
     }
     table
 }
@@ -251,11 +251,12 @@ pub fn table(rng: &mut Rng) -> Table {
 pub fn record(rng: &mut Rng) -> Record {
     let table = table(rng);
     let mut record = table.record(rng.below(u32::from(table.tray.desks)) as u8);
-    if record.slot.is_answered() {
+    let slot = &mut record.row.slot;
+    if slot.is_answered() {
         // Back to the request, as the desk itself still has it.
-        record.slot.kind -= slot::ANSWER;
-        if record.slot.kind == slot::READ_ASKED {
-            (record.slot.word, record.slot.clock) = (0, Clock::ZERO);
+        slot.kind -= slot::ANSWER;
+        if slot.kind == slot::READ_ASKED {
+            (slot.word, slot.clock) = (0, Clock::ZERO);
         }
     }
     record
@@ -270,9 +271,8 @@ fn sound_row(rng: &mut Rng, tray: &Tray, desk: u8) -> Row {
         // On either side of the last number there is.
         row.clock.n[usize::from(desk)] = u32::MAX - rng.below(2);
     }
-    let cells = usize::from(tray.cells);
-    for (cell, &keeper) in row.cells[..cells].iter_mut().zip(&tray.keepers) {
-        if keeper == desk || rng.one_in(2) {
+    for (cell, place) in row.cells.iter_mut().zip(tray.used_places()) {
+        if place.keeper == desk || rng.one_in(2) {
             *cell = Cell {
                 held: true,
                 word: rng.edgy(),
@@ -281,7 +281,7 @@ fn sound_row(rng: &mut Rng, tray: &Tray, desk: u8) -> Row {
         }
     }
     let cell = rng.below(u32::from(tray.cells)) as u8;
-    if tray.keepers[usize::from(cell)] != desk && rng.one_in(2) {
+    if !tray.keeps(desk, cell) && rng.one_in(2) {
         row.served = rng.one_in(2);
         row.slot = Slot {
             kind: 1 + rng.below(4) as u8,
@@ -323,17 +323,17 @@ pub const BREAKS: &[(&str, Break)] = &[
         let desks = t.tray.desks;
         let cell = rng.index(t.tray.cells.into());
         set(
-            &mut t.tray.keepers[cell],
+            &mut t.tray.places[cell].keeper,
             desks + rng.below(256 - u32::from(desks)) as u8,
         )
     }),
     ("a keeper past the count", |rng, t| {
         past(rng, t.tray.cells, CELLS)
-            .is_some_and(|cell| set(&mut t.tray.keepers[cell], 1 + rng.below(255) as u8))
+            .is_some_and(|cell| set(&mut t.tray.places[cell].keeper, 1 + rng.below(255) as u8))
     }),
     ("a keeper without its cell", |rng, t| {
         let cell = rng.index(t.tray.cells.into());
-        let keeper = usize::from(t.tray.keepers[cell]);
+        let keeper = usize::from(t.tray.places[cell].keeper);
         set(&mut t.rows[keeper].cells[cell], Cell::NONE)
     }),
     ("a clock number past the count", |rng, t| {
@@ -343,7 +343,7 @@ pub const BREAKS: &[(&str, Break)] = &[
     }),
     ("a stamp number past the count", |rng, t| {
         let cell = rng.index(t.tray.cells.into());
-        let keeper = usize::from(t.tray.keepers[cell]);
+        let keeper = usize::from(t.tray.places[cell].keeper);
         past(rng, t.tray.desks, DESKS)
             .is_some_and(|n| set(&mut t.rows[keeper].cells[cell].stamp.n[n], rng.nonzero()))
     }),
@@ -394,7 +394,7 @@ pub const BREAKS: &[(&str, Break)] = &[
     }),
     ("a slot's cell kept by its desk", |rng, t| {
         let cell = rng.index(t.tray.cells.into());
-        let keeper = usize::from(t.tray.keepers[cell]);
+        let keeper = usize::from(t.tray.places[cell].keeper);
         t.rows[keeper].slot = Slot {
             kind: 1 + rng.below(4) as u8,
             cell: cell as u8,
@@ -473,20 +473,16 @@ pub fn break_record(rng: &mut Rng, record: &mut Record) -> &'static str {
                 record.desk = desks + rng.below(256 - u32::from(desks)) as u8;
                 return "a number that is no desk";
             }
-            1 if record.slot.is_asked() => {
-                record.slot.kind += slot::ANSWER;
+            1 if record.row.slot.is_asked() => {
+                record.row.slot.kind += slot::ANSWER;
                 return "an answered slot";
             }
             _ => {
                 // In a table with this desk alone in it, what breaks the row breaks the record.
-                let desk = usize::from(record.desk);
                 let mut table = around(record);
                 let (name, broken) = rng.pick(BREAKS);
                 if broken(rng, &mut table) {
-                    let damaged = Record {
-                        tray: table.tray,
-                        ..table.record(desk as u8)
-                    };
+                    let damaged = table.record(record.desk);
                     if damaged != *record {
                         *record = damaged;
                         return name;
@@ -499,16 +495,8 @@ pub fn break_record(rng: &mut Rng, record: &mut Record) -> &'static str {
 
 /// A table whose row for the record's desk is the record, and all others fresh.
 fn around(record: &Record) -> Table {
-    let tray = &record.tray;
-    let keepers = tray.keepers.map(u32::from);
-    let mut table =
-        Table::new(tray.desks.into(), tray.cells.into(), &keepers).expect("a sound record");
-    table.rows[usize::from(record.desk)] = Row {
-        clock: record.clock,
-        cells: record.row,
-        slot: record.slot,
-        served: record.served,
-    };
+    let mut table = Table::fresh(record.tray);
+    table.rows[usize::from(record.desk)] = record.row;
     table
 }
 
@@ -522,7 +510,7 @@ pub fn scramble(rng: &mut Rng, table: &mut Table) {
     match rng.below(12) {
         0 => table.tray.desks = byte,
         1 => table.tray.cells = byte,
-        2 => table.tray.keepers[rng.index(CELLS)] = byte,
+        2 => table.tray.places[rng.index(CELLS)].keeper = byte,
         3 => row.clock.n[number] = word,
         4 => cell.held = !cell.held,
         5 => cell.word = word,
@@ -535,40 +523,75 @@ pub fn scramble(rng: &mut Rng, table: &mut Table) {
     }
 }
 
-/// How many fields a table has, each number of a clock counted.
-pub const FIELDS: usize = 2 + CELLS + DESKS * ROW_FIELDS;
-const ROW_FIELDS: usize = DESKS + 3 + DESKS + 1 + CELLS * CELL_FIELDS;
-const CELL_FIELDS: usize = 2 + DESKS;
+/// What can have any one field set.
+pub trait Poke {
+    /// How many fields there are, each number of a clock counted.
+    const FIELDS: usize;
+    /// Sets the field of this number, below [`FIELDS`](Poke::FIELDS), to as much of `value` as it
+    /// has room for.
+    fn poke(&mut self, field: usize, value: u32);
+}
 
-/// Sets the field of this number, below [`FIELDS`], to as much of `value` as it has room for.
-pub fn poke(table: &mut Table, field: usize, value: u32) {
-    let (byte, flag) = (value as u8, value & 1 == 1);
-    match field {
-        0 => return table.tray.desks = byte,
-        1 => return table.tray.cells = byte,
-        _ => {}
-    }
-    let field = field - 2;
-    if field < CELLS {
-        return table.tray.keepers[field] = byte;
-    }
-    let field = field - CELLS;
-    let row = &mut table.rows[field / ROW_FIELDS];
-    match field % ROW_FIELDS {
-        n @ 0..8 => row.clock.n[n] = value,
-        8 => row.slot.kind = byte,
-        9 => row.slot.cell = byte,
-        10 => row.slot.word = value,
-        n @ 11..19 => row.slot.clock.n[n - 11] = value,
-        19 => row.served = flag,
-        rest => {
-            let cell = &mut row.cells[(rest - 20) / CELL_FIELDS];
-            match (rest - 20) % CELL_FIELDS {
-                0 => cell.held = flag,
-                1 => cell.word = value,
-                n => cell.stamp.n[n - 2] = value,
+/// A struct of these fields; one that is left out does not compile.
+macro_rules! poke {
+    ($($name:ident { $($part:ident: $type:ty),* })*) => {$(
+        impl Poke for $name {
+            const FIELDS: usize = 0 $(+ <$type>::FIELDS)*;
+
+            fn poke(&mut self, mut field: usize, value: u32) {
+                let $name { $($part),* } = self;
+                $(
+                    if field < <$type>::FIELDS {
+                        return $part.poke(field, value);
+                    }
+                    field -= <$type>::FIELDS;
+                )*
+                panic!("no field {field} after the last");
             }
         }
+    )*};
+}
+
+poke! {
+    Clock { n: [u32; DESKS] }
+    Cell { held: bool, word: u32, stamp: Clock }
+    Slot { kind: u8, cell: u8, word: u32, clock: Clock }
+    Row { clock: Clock, slot: Slot, served: bool, cells: [Cell; CELLS] }
+    Place { keeper: u8 }
+    Tray { desks: u8, cells: u8, places: [Place; CELLS] }
+    Table { tray: Tray, rows: [Row; DESKS] }
+    Record { tray: Tray, desk: u8, row: Row }
+}
+
+impl<T: Poke, const N: usize> Poke for [T; N] {
+    const FIELDS: usize = N * T::FIELDS;
+
+    fn poke(&mut self, field: usize, value: u32) {
+        self[field / T::FIELDS].poke(field % T::FIELDS, value);
+    }
+}
+
+impl Poke for u32 {
+    const FIELDS: usize = 1;
+
+    fn poke(&mut self, _: usize, value: u32) {
+        *self = value;
+    }
+}
+
+impl Poke for u8 {
+    const FIELDS: usize = 1;
+
+    fn poke(&mut self, _: usize, value: u32) {
+        *self = value as u8;
+    }
+}
+
+impl Poke for bool {
+    const FIELDS: usize = 1;
+
+    fn poke(&mut self, _: usize, value: u32) {
+        *self = value & 1 == 1;
     }
 }
 
@@ -668,7 +691,7 @@ pub fn message_for(rng: &mut Rng, record: &Record) -> Message {
     let desks = tray.desks.clamp(1, DESKS as u8);
     let cells = tray.cells.clamp(1, CELLS as u8);
     let kept = some(rng, 0..cells, |&cell| {
-        tray.keepers[usize::from(cell)] == record.desk
+        tray.places[usize::from(cell)].keeper == record.desk
     });
     let another = u32::from(record.desk) + 1 + rng.below(u32::from(desks).max(2) - 1);
     let mut message = Message {
@@ -679,10 +702,11 @@ pub fn message_for(rng: &mut Rng, record: &Record) -> Message {
         word: rng.edgy(),
         clock: clock(rng, desks),
     };
-    if record.slot.is_asked() && rng.one_in(2) {
-        message.kind = record.slot.kind + slot::ANSWER;
+    let asked = &record.row.slot;
+    if asked.is_asked() && rng.one_in(2) {
+        message.kind = asked.kind + slot::ANSWER;
         message.desk = record.desk;
-        message.cell = record.slot.cell;
+        message.cell = asked.cell;
     }
     if rng.one_in(4) {
         let small = rng.below(10) as u8;

@@ -6,7 +6,7 @@
 
 use crate::data::{code, kind, slot};
 use crate::history::{Does, Operation};
-use crate::{Clock, Event, Refusal, Reply, Slot, Table, Tray};
+use crate::{Cell, Clock, Event, Refusal, Reply, Row, Slot, Table, Tray};
 
 /// A place where the rules may be cut short.
 #[derive(Clone, Copy, Debug, PartialEq, Eq)]
@@ -58,6 +58,26 @@ struct Desk {
 }
 
 impl Desk {
+    /// What the table has for it.
+    fn row(&self) -> Row {
+        let mut row = Row {
+            clock: self.clock,
+            slot: self.slot(),
+            served: self.served,
+            cells: Row::UNUSED.cells,
+        };
+        for (cell, datum) in row.cells.iter_mut().zip(&self.cells) {
+            if let Some(Datum { word, stamp, .. }) = *datum {
+                *cell = Cell {
+                    held: true,
+                    word,
+                    stamp,
+                };
+            }
+        }
+        row
+    }
+
     fn slot(&self) -> Slot {
         let (kind, cell, word, clock) = match self.waits {
             Waits::No => return Slot::EMPTY,
@@ -94,10 +114,8 @@ impl Ghost {
     /// A fresh table of this tray.
     #[must_use]
     pub fn new(tray: &Tray, shortcut: Option<Shortcut>) -> Ghost {
-        let keepers: Vec<usize> = tray.keepers[..usize::from(tray.cells)]
-            .iter()
-            .map(|&keeper| keeper.into())
-            .collect();
+        let places = tray.used_places().iter();
+        let keepers: Vec<usize> = places.map(|place| place.keeper.into()).collect();
         let desks = (0..usize::from(tray.desks))
             .map(|desk| Desk {
                 clock: Clock::ZERO,
@@ -126,26 +144,30 @@ impl Ghost {
             from: None,
         };
         let mut ghost = Ghost::new(&table.tray, None);
-        for (desk, row) in ghost.desks.iter_mut().zip(&table.rows) {
-            let cells = row.cells.iter().take(ghost.keepers.len());
+        for (desk, row) in ghost.desks.iter_mut().zip(table.rows) {
+            let Row {
+                clock,
+                cells,
+                slot,
+                served,
+            } = row;
+            let cells = cells.iter().take(ghost.keepers.len());
             *desk = Desk {
-                clock: row.clock,
+                clock,
                 cells: cells
                     .map(|cell| cell.held.then(|| datum(cell.word, cell.stamp)))
                     .collect(),
-                waits: match (row.slot.kind, row.slot.cell.into()) {
+                waits: match (slot.kind, slot.cell.into()) {
                     (slot::EMPTY, _) => Waits::No,
                     (slot::READ_ASKED, cell) => Waits::ReadAsked(cell),
-                    (slot::WRITE_ASKED, cell) => {
-                        Waits::WriteAsked(cell, row.slot.word, row.slot.clock)
-                    }
+                    (slot::WRITE_ASKED, cell) => Waits::WriteAsked(cell, slot.word, slot.clock),
                     (kind, cell) => Waits::Answered {
                         write: kind == slot::WRITE_ANSWERED,
                         cell,
-                        datum: datum(row.slot.word, row.slot.clock),
+                        datum: datum(slot.word, slot.clock),
                     },
                 },
-                served: row.served,
+                served,
             };
         }
         ghost
@@ -166,14 +188,8 @@ impl Ghost {
     /// Whether every desk's row of the table is the same.
     #[must_use]
     pub fn agrees(&self, table: &Table) -> bool {
-        self.desks.iter().zip(&table.rows).all(|(ghost, row)| {
-            let cells = ghost.cells.iter().zip(&row.cells).all(|(ghost, cell)| {
-                let datum = ghost.unwrap_or(BLANK);
-                (ghost.is_some(), datum.word, datum.stamp) == (cell.held, cell.word, cell.stamp)
-            });
-            let rest = (ghost.clock, ghost.slot(), ghost.served);
-            cells && rest == (row.clock, row.slot, row.served)
-        })
+        let mut rows = self.desks.iter().zip(&table.rows);
+        rows.all(|(desk, row)| desk.row() == *row)
     }
 
     /// Does one event.

@@ -24,7 +24,7 @@ pub mod script;
 pub mod table;
 
 pub use clock::Clock;
-pub use data::{Cell, Event, Message, Refusal, Reply, Slot, Tray};
+pub use data::{Cell, Event, Message, Place, Plan, Refusal, Reply, Row, Slot, Tray};
 pub use record::Record;
 pub use table::Table;
 

@@ -1,70 +1,52 @@
 //! One desk's record: its events, serving a request and bringing an answer.
 
 use crate::data::{code, kind, slot};
-use crate::rules::{Rules, State};
-use crate::{Cell, Clock, Event, Message, Refusal, Reply, Slot, Tray, CELLS};
+use crate::rules::Rules;
+use crate::{Event, Message, Plan, Refusal, Reply, Row, Tray};
 
-/// The record of one desk.
+/// The record of one desk: its row of the table, with the tray and the desk's number.
 #[repr(C)]
 #[derive(Clone, Copy, Debug, Default, PartialEq, Eq)]
 pub struct Record {
-    /// The counts and keepers.
+    /// The counts and the cells' places.
     pub tray: Tray,
     /// The desk's number.
     pub desk: u8,
-    /// Its clock.
-    pub clock: Clock,
-    /// The cells as it has them.
-    pub row: [Cell; CELLS],
-    /// What it waits for: a request stays here until its answer is brought.
-    pub slot: Slot,
-    /// Whether it served a write since it began to wait.
-    pub served: bool,
+    /// All that the desk has.
+    pub row: Row,
 }
 
 impl Record {
     /// The record of a desk before its first event, or 20, 21, 22, or 10 for a number that is no desk.
-    pub fn new(
-        desks: u32,
-        cells: u32,
-        keepers: &[u32; CELLS],
-        desk: u32,
-    ) -> Result<Record, Refusal> {
-        let tray = Tray::new(desks, cells, keepers)?;
-        if desk >= desks {
+    pub fn new(plan: &Plan, desk: u32) -> Result<Record, Refusal> {
+        let tray = Tray::new(plan)?;
+        if desk >= plan.desks {
             return Err(Refusal::Desk);
         }
         let mut record = Record {
             tray,
             desk: desk as u8,
-            ..Record::default()
+            row: Row::UNUSED,
         };
-        for (cell, &keeper) in record.row.iter_mut().zip(&tray.keepers[..cells as usize]) {
-            cell.held = u32::from(keeper) == desk;
-        }
+        record.row.begin(&tray, record.desk);
         Ok(record)
     }
 
     /// Whether this is a record that some desk of the tray could lend.
     #[must_use]
     pub fn is_sound(&self) -> bool {
-        let state = State {
-            clock: &self.clock,
-            row: &self.row,
-            slot: &self.slot,
-            served: self.served,
-        };
         self.tray.is_sound()
             && self.desk < self.tray.desks
-            && !self.slot.is_answered()
-            && state.is_sound(&self.tray, self.desk)
+            && !self.row.slot.is_answered()
+            && self.row.is_sound(&self.tray, self.desk)
     }
 
     /// Reads, writes or drops, whatever desk the event names. Code 1 comes with the request to send.
     pub fn event(&mut self, event: &Event) -> (Reply, Message) {
         match self.try_event(event) {
             Ok(reply) if reply.code == code::ASKED => {
-                (reply, Message::of(&self.slot, self.tray.desks, self.desk))
+                let request = Message::of(&self.row.slot, self.tray.desks, self.desk);
+                (reply, request)
             }
             Ok(reply) => (reply, Message::ZERO),
             Err(refusal) => (refusal.into(), Message::ZERO),
@@ -108,13 +90,13 @@ impl Record {
 
     fn try_bring(&mut self, answer: &Message) -> Result<Reply, Refusal> {
         self.check()?;
-        if self.slot.kind == slot::EMPTY {
+        if self.row.slot.kind == slot::EMPTY {
             return Err(Refusal::Nothing);
         }
         let fits = self.fits(answer)
             && answer.desk == self.desk
-            && answer.cell == self.slot.cell
-            && answer.kind == self.slot.kind + slot::ANSWER;
+            && answer.cell == self.row.slot.cell
+            && answer.kind == self.row.slot.kind + slot::ANSWER;
         if !fits {
             return Err(Refusal::Unfit);
         }
@@ -138,10 +120,7 @@ impl Record {
         Rules {
             tray: &self.tray,
             desk: self.desk,
-            clock: &mut self.clock,
             row: &mut self.row,
-            slot: &mut self.slot,
-            served: &mut self.served,
         }
     }
 }

@@ -1,19 +1,11 @@
-//! What one desk does, in a record or in the table, and when its part is sound.
+//! What one desk does, in a record or in the table, and when its row is sound.
 
 use crate::data::{code, kind, slot};
-use crate::{Cell, Clock, Event, Refusal, Reply, Slot, Tray, CELLS};
+use crate::{Cell, Clock, Event, Refusal, Reply, Row, Slot, Tray};
 
-/// One desk's part of a record or of the table, to look at.
-pub(crate) struct State<'a> {
-    pub clock: &'a Clock,
-    pub row: &'a [Cell; CELLS],
-    pub slot: &'a Slot,
-    pub served: bool,
-}
-
-impl State<'_> {
+impl Row {
     /// Sound for this desk of a tray that is itself sound.
-    pub fn is_sound(&self, tray: &Tray, desk: u8) -> bool {
+    pub(crate) fn is_sound(&self, tray: &Tray, desk: u8) -> bool {
         self.scan().is_some_and(|(held, numbers)| {
             held & !tray.cell_bits() == 0
                 && tray.kept_bits(desk) & !held == 0
@@ -21,17 +13,12 @@ impl State<'_> {
         }) && self.has_sound_slot(tray, desk)
     }
 
-    /// Nothing of it is used: no desk is here.
-    pub fn is_unused(&self) -> bool {
-        self.scan() == Some((0, Clock::ZERO)) && *self.slot == Slot::EMPTY && !self.served
-    }
-
     /// The held cells as bits, and the numbers of the clock and of all stamps laid over each other;
     /// nothing if something is left in a cell not held.
     fn scan(&self) -> Option<(u32, Clock)> {
         let mut held = 0;
-        let mut numbers = *self.clock;
-        for (i, cell) in self.row.iter().enumerate() {
+        let mut numbers = self.clock;
+        for (i, cell) in self.cells.iter().enumerate() {
             if cell.held {
                 held |= 1 << i;
                 for (all, number) in numbers.n.iter_mut().zip(cell.stamp.n) {
@@ -45,7 +32,7 @@ impl State<'_> {
     }
 
     fn has_sound_slot(&self, tray: &Tray, desk: u8) -> bool {
-        let slot = self.slot;
+        let slot = &self.slot;
         match slot.kind {
             slot::EMPTY => *slot == Slot::EMPTY && !self.served,
             slot::READ_ASKED..=slot::WRITE_ANSWERED => {
@@ -60,14 +47,11 @@ impl State<'_> {
     }
 }
 
-/// One desk's part of a sound record or table, to change by the rules.
+/// A desk's row in a sound record or table, to change by the rules.
 pub(crate) struct Rules<'a> {
     pub tray: &'a Tray,
     pub desk: u8,
-    pub clock: &'a mut Clock,
-    pub row: &'a mut [Cell; CELLS],
-    pub slot: &'a mut Slot,
-    pub served: &'a mut bool,
+    pub row: &'a mut Row,
 }
 
 impl Rules<'_> {
@@ -76,7 +60,7 @@ impl Rules<'_> {
         if event.cell >= u32::from(self.tray.cells) {
             return Err(Refusal::Cell);
         }
-        if self.slot.kind != slot::EMPTY {
+        if self.row.slot.kind != slot::EMPTY {
             return Err(Refusal::Waits);
         }
         let cell = event.cell as u8;
@@ -88,7 +72,7 @@ impl Rules<'_> {
     }
 
     fn read(&mut self, cell: u8) -> Reply {
-        let here = &self.row[cell as usize];
+        let here = &self.row.cells[cell as usize];
         if here.held {
             return Reply::shows(here.word, 0);
         }
@@ -100,11 +84,11 @@ impl Rules<'_> {
     }
 
     fn write(&mut self, cell: u8, word: u32) -> Result<Reply, Refusal> {
-        let mut clock = *self.clock;
+        let mut clock = self.row.clock;
         let own = &mut clock.n[self.desk as usize];
         *own = own.checked_add(1).ok_or(Refusal::Spent)?;
         if self.tray.keeps(self.desk, cell) {
-            *self.clock = clock;
+            self.row.clock = clock;
             self.store(cell, word);
             return Ok(Reply::new(code::DONE, word, 0));
         }
@@ -121,22 +105,22 @@ impl Rules<'_> {
         if self.tray.keeps(self.desk, cell) {
             return Err(Refusal::Keeps);
         }
-        let copy = std::mem::replace(&mut self.row[cell as usize], Cell::NONE);
+        let copy = std::mem::replace(&mut self.row.cells[cell as usize], Cell::NONE);
         Ok(Reply::new(code::DONE, 0, u32::from(copy.held)))
     }
 
     fn ask(&mut self, request: Slot) -> Reply {
-        *self.slot = request;
-        *self.served = false;
+        self.row.slot = request;
+        self.row.served = false;
         Reply::ASKED
     }
 
     /// The word of a kept cell, stamped with the desk's clock as it is now.
     fn store(&mut self, cell: u8, word: u32) {
-        self.row[cell as usize] = Cell {
+        self.row.cells[cell as usize] = Cell {
             held: true,
             word,
-            stamp: *self.clock,
+            stamp: self.row.clock,
         };
     }
 
@@ -144,12 +128,12 @@ impl Rules<'_> {
     pub fn serve(&mut self, request: &Slot) -> (Reply, Slot) {
         let mut reply = Reply::DONE;
         if request.kind == slot::WRITE_ASKED {
-            *self.clock = self.clock.merge(&request.clock);
+            self.row.clock = self.row.clock.merge(&request.clock);
             self.store(request.cell, request.word);
             reply.count = self.drop_before(&request.clock, None);
-            *self.served |= self.slot.kind != slot::EMPTY;
+            self.row.served |= self.row.slot.kind != slot::EMPTY;
         }
-        let here = &self.row[request.cell as usize];
+        let here = &self.row.cells[request.cell as usize];
         let answer = Slot {
             kind: request.kind + slot::ANSWER,
             cell: request.cell,
@@ -161,10 +145,10 @@ impl Rules<'_> {
 
     /// The asking desk's part of a bring: the answer is to what its slot asked.
     pub fn bring(&mut self, answer: &Slot) -> Reply {
-        *self.clock = self.clock.merge(&answer.clock);
+        self.row.clock = self.row.clock.merge(&answer.clock);
         let count = self.drop_before(&answer.clock, Some(answer.cell));
         // An answer that crossed with a served write may be older than what the desk now knows.
-        self.row[answer.cell as usize] = if *self.served {
+        self.row.cells[answer.cell as usize] = if self.row.served {
             Cell::NONE
         } else {
             Cell {
@@ -173,8 +157,8 @@ impl Rules<'_> {
                 stamp: answer.clock,
             }
         };
-        *self.slot = Slot::EMPTY;
-        *self.served = false;
+        self.row.slot = Slot::EMPTY;
+        self.row.served = false;
         if answer.kind == slot::READ_ANSWERED {
             Reply::shows(answer.word, count)
         } else {
@@ -184,11 +168,10 @@ impl Rules<'_> {
 
     /// Drops the copies strictly before `clock`, but for one cell, and counts them.
     fn drop_before(&mut self, clock: &Clock, but: Option<u8>) -> u32 {
-        let cells = self.tray.cells as usize;
-        let keepers = &self.tray.keepers[..cells];
+        let places = self.tray.used_places();
         let mut count = 0;
-        for (i, (cell, &keeper)) in self.row[..cells].iter_mut().zip(keepers).enumerate() {
-            let is_copy = cell.held && keeper != self.desk;
+        for (i, (cell, place)) in self.row.cells.iter_mut().zip(places).enumerate() {
+            let is_copy = cell.held && place.keeper != self.desk;
             if is_copy && but != Some(i as u8) && cell.stamp.is_before(clock) {
                 *cell = Cell::NONE;
                 count += 1;

@@ -1,6 +1,6 @@
 //! The script program: a tray's history in, one line for each event out.
 
-use crate::{Event, Refusal, Table, CELLS};
+use crate::{Event, Plan, Refusal, Table, CELLS};
 
 /// The longest input it looks at.
 pub const LONGEST_INPUT: usize = 65_536;
@@ -38,12 +38,16 @@ fn play(lines: &mut Lines, out: &mut Vec<u8>) -> Result<(), Stop> {
     let mut two = [0; 2];
     lines.next(&mut two)?;
     let [desks, cells] = two;
-    let mut keepers = [0; CELLS];
+    let mut plan = Plan {
+        desks,
+        cells,
+        keepers: [0; CELLS],
+    };
     // With no such number of cells there is no telling what line 2 should be.
     if (1..=CELLS as u32).contains(&cells) {
-        lines.next(&mut keepers[..cells as usize])?;
+        lines.next(&mut plan.keepers[..cells as usize])?;
     }
-    let mut table = Table::new(desks, cells, &keepers).map_err(Stop::Refused)?;
+    let mut table = Table::new(&plan).map_err(Stop::Refused)?;
     let mut four = [0; 4];
     while !lines.rest.is_empty() {
         lines.next(&mut four)?;

@@ -1,47 +1,14 @@
 //! The table of all desks with their messages under way, and its five events.
 
 use crate::data::kind;
-use crate::rules::{Rules, State};
-use crate::{Cell, Clock, Event, Record, Refusal, Reply, Slot, Tray, CELLS, DESKS};
+use crate::rules::Rules;
+use crate::{Event, Plan, Record, Refusal, Reply, Row, Tray, DESKS};
 
-/// One desk's row of the table.
-#[repr(C)]
-#[derive(Clone, Copy, Debug, Default, PartialEq, Eq)]
-pub struct Row {
-    /// The desk's clock.
-    pub clock: Clock,
-    /// The cells as the desk has them.
-    pub cells: [Cell; CELLS],
-    /// What the desk waits for, asked or answered.
-    pub slot: Slot,
-    /// Whether it served a write since it began to wait.
-    pub served: bool,
-}
-
-impl Row {
-    /// The row of a desk that is not there.
-    pub const UNUSED: Row = Row {
-        clock: Clock::ZERO,
-        cells: [Cell::NONE; CELLS],
-        slot: Slot::EMPTY,
-        served: false,
-    };
-
-    fn state(&self) -> State<'_> {
-        State {
-            clock: &self.clock,
-            row: &self.cells,
-            slot: &self.slot,
-            served: self.served,
-        }
-    }
-}
-
-/// Counts, keepers and a row for each desk, with room for all eight.
+/// The tray and a row for each desk, with room for all eight.
 #[repr(C)]
 #[derive(Clone, Copy, Debug, Default, PartialEq, Eq)]
 pub struct Table {
-    /// The counts and keepers.
+    /// The counts and the cells' places.
     pub tray: Tray,
     /// The desks' rows.
     pub rows: [Row; DESKS],
@@ -49,16 +16,20 @@ pub struct Table {
 
 impl Table {
     /// A fresh table, or 20, 21 or 22.
-    pub fn new(desks: u32, cells: u32, keepers: &[u32; CELLS]) -> Result<Table, Refusal> {
-        let tray = Tray::new(desks, cells, keepers)?;
+    pub fn new(plan: &Plan) -> Result<Table, Refusal> {
+        Tray::new(plan).map(Table::fresh)
+    }
+
+    /// The fresh table of a sound tray.
+    pub(crate) fn fresh(tray: Tray) -> Table {
         let mut table = Table {
             tray,
             rows: [Row::UNUSED; DESKS],
         };
-        for (cell, &keeper) in tray.keepers[..cells as usize].iter().enumerate() {
-            table.rows[keeper as usize].cells[cell] = Cell::FRESH;
+        for (row, desk) in table.rows.iter_mut().zip(0..tray.desks) {
+            row.begin(&tray, desk);
         }
-        Ok(table)
+        table
     }
 
     /// Whether every rule for a table holds.
@@ -66,11 +37,10 @@ impl Table {
     pub fn is_sound(&self) -> bool {
         self.tray.is_sound()
             && self.rows.iter().zip(0..).all(|(row, desk)| {
-                let state = row.state();
                 if desk < self.tray.desks {
-                    state.is_sound(&self.tray, desk)
+                    row.is_sound(&self.tray, desk)
                 } else {
-                    state.is_unused()
+                    *row == Row::UNUSED
                 }
             })
     }
@@ -84,14 +54,10 @@ impl Table {
     /// lent record is sound with that.
     #[must_use]
     pub fn record(&self, desk: u8) -> Record {
-        let row = &self.rows[desk as usize];
         Record {
             tray: self.tray,
             desk,
-            clock: row.clock,
-            row: row.cells,
-            slot: row.slot,
-            served: row.served,
+            row: self.rows[desk as usize],
         }
     }
 
@@ -118,7 +84,7 @@ impl Table {
         if !request.is_asked() {
             return Err(Refusal::Nothing);
         }
-        let keeper = self.tray.keepers[request.cell as usize];
+        let keeper = self.tray.places[request.cell as usize].keeper;
         let (reply, answer) = self.rules(keeper).serve(&request);
         self.rows[desk as usize].slot = answer;
         Ok(reply)
@@ -133,14 +99,10 @@ impl Table {
     }
 
     fn rules(&mut self, desk: u8) -> Rules<'_> {
-        let row = &mut self.rows[desk as usize];
         Rules {
             tray: &self.tray,
             desk,
-            clock: &mut row.clock,
-            row: &mut row.cells,
-            slot: &mut row.slot,
-            served: &mut row.served,
+            row: &mut self.rows[desk as usize],
         }
     }
 }

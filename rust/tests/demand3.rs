@@ -11,7 +11,7 @@ use twin::data::kind;
 use twin::gen::{self, Mood, Rng};
 use twin::ghost::{Ghost, Shortcut};
 use twin::history::{line_up, Broken, Causal, Does, History, Operation};
-use twin::{Event, Table, Tray};
+use twin::{Event, Plan, Table, Tray};
 
 /// Causal order by its definition: who precedes whom, chains by walking until nothing is new.
 fn precedes(history: &History) -> Vec<Vec<bool>> {
@@ -234,8 +234,12 @@ fn the_decision_is_exact_on_short_runs_with_shortcuts() {
 /// A tray of 2 to `most_desks` desks and 2 to `most_cells` cells.
 fn small_tray(rng: &mut Rng, most_desks: u32, most_cells: u32) -> Tray {
     let desks = 2 + rng.below(most_desks - 1);
-    let keepers = std::array::from_fn(|_| rng.below(desks));
-    Tray::new(desks, 2 + rng.below(most_cells - 1), &keepers).expect("a good set-up")
+    let plan = Plan {
+        desks,
+        keepers: std::array::from_fn(|_| rng.below(desks)),
+        cells: 2 + rng.below(most_cells - 1),
+    };
+    Tray::new(&plan).expect("a good set-up")
 }
 
 /// A run of the rules with a shortcut.
@@ -264,8 +268,7 @@ struct Seen {
 /// One run of the twin with the ghost beside it, and demand 3 for every desk at its end.
 fn check_run(seed: u64, events: u32, seen: &mut Seen) {
     let mut rng = Rng::new(seed);
-    let (desks, cells, keepers) = gen::good_setup(&mut rng, 2);
-    let mut table = Table::new(desks, cells, &keepers).expect("a good set-up");
+    let mut table = Table::new(&gen::good_setup(&mut rng, 2)).expect("a good set-up");
     let mut ghost = Ghost::new(&table.tray, None);
     let mood = Mood::new(&mut rng);
     for _ in 0..events {
@@ -282,8 +285,8 @@ fn check_run(seed: u64, events: u32, seen: &mut Seen) {
         }
         let asker = &before.rows[event.desk as usize];
         if event.kind == kind::TAKE {
-            let keeper = before.tray.keepers[usize::from(asker.slot.cell)];
-            let keeper_waits = before.rows[usize::from(keeper)].slot.kind != 0;
+            let place = &before.tray.places[usize::from(asker.slot.cell)];
+            let keeper_waits = before.rows[usize::from(place.keeper)].slot.kind != 0;
             seen.served_waiting += u64::from(keeper_waits);
         }
         seen.brought_served += u64::from(event.kind == kind::BRING && asker.served);
@@ -293,7 +296,7 @@ fn check_run(seed: u64, events: u32, seen: &mut Seen) {
     seen.longest = seen.longest.max(history.len());
     let causal = Causal::of(history).expect("words come from writes");
     let precedes = precedes(history);
-    for desk in 0..desks as u8 {
+    for desk in 0..table.tray.desks {
         let line = causal.line_up(desk);
         let line = line.unwrap_or_else(|broken| panic!("seed {seed}, desk {desk}: {broken:?}"));
         assert!(
@@ -376,10 +379,9 @@ fn a_dozen_events_are_enough_to_catch_them() {
             numbers.collect::<Result<_, _>>().expect("numbers")
         });
         let counts = lines.next().expect("the counts");
-        let mut keepers = lines.next().expect("the keepers");
-        keepers.resize(32, 0);
-        let keepers = keepers.try_into().expect("32 keepers");
-        let tray = Tray::new(counts[0], counts[1], &keepers).expect("a good set-up");
+        let plan = Plan::new(counts[0], &lines.next().expect("the keepers"));
+        assert_eq!(plan.cells, counts[1], "{name}");
+        let tray = Tray::new(&plan).expect("a good set-up");
         let events: Vec<Event> = lines
             .map(|line| Event {
                 kind: line[0],
@@ -407,8 +409,7 @@ fn the_other_two_never_break_demand_3_yet_are_not_the_rules() {
         // The exact rules do tell them apart.
         let differs = (0..100).any(|seed| {
             let mut rng = Rng::new(seed);
-            let (desks, cells, keepers) = gen::good_setup(&mut rng, 2);
-            let mut table = Table::new(desks, cells, &keepers).expect("a good set-up");
+            let mut table = Table::new(&gen::good_setup(&mut rng, 2)).expect("a good set-up");
             let mut ghost = Ghost::new(&table.tray, Some(shortcut));
             let mood = Mood::new(&mut rng);
             (0..80).any(|_| {

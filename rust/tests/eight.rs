@@ -23,7 +23,7 @@ struct KeepsServed;
 
 impl Part for KeepsServed {
     fn bring(record: &mut Record, answer: &Message) -> Reply {
-        record.served = false;
+        record.row.served = false;
         record.bring(answer)
     }
 }
@@ -36,7 +36,7 @@ fn desks_that_keep_what_they_should_not_are_found_out() {
         let run = run::<KeepsServed>(seed, 150);
         disagreed += u64::from(check::<Table>(&run).is_err());
         // Played by the same wrong rule the replies agree, and only the curator notices.
-        let tray = Tray::new(8, 12, &run.keepers).expect("a good set-up");
+        let tray = Tray::new(&run.plan).expect("a good set-up");
         let mut ghost = Ghost::new(&tray, Some(Shortcut::KeepServed));
         for step in &run.steps {
             assert_eq!(

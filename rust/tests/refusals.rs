@@ -2,10 +2,9 @@
 //! against the ghost and against the desks' parts.
 
 use twin::data::{kind, slot};
-use twin::gen::{self, Mood, Rng, BREAKS, FIELDS};
+use twin::gen::{self, Mood, Poke, Rng, BREAKS};
 use twin::ghost::Ghost;
-use twin::table::Row;
-use twin::{Cell, Clock, Event, Message, Record, Reply, Slot, Table};
+use twin::{Cell, Clock, Event, Message, Place, Plan, Record, Reply, Row, Slot, Table};
 
 /// A sound table, clause by clause.
 fn is_sound(table: &Table) -> bool {
@@ -15,10 +14,11 @@ fn is_sound(table: &Table) -> bool {
         return false;
     }
     let no_numbers_past = |clock: &Clock| clock.n[desks..] == [0; 8][desks..];
-    let keepers_are_desks = (0..cells).all(|cell| (table.tray.keepers[cell] as usize) < desks);
+    let keeper = |cell: usize| table.tray.places[cell].keeper as usize;
+    let keepers_are_desks = (0..cells).all(|cell| keeper(cell) < desks);
     keepers_are_desks
-        && (cells..32).all(|cell| table.tray.keepers[cell] == 0)
-        && (0..cells).all(|cell| table.rows[table.tray.keepers[cell] as usize].cells[cell].held)
+        && (cells..32).all(|cell| table.tray.places[cell] == Place::default())
+        && (0..cells).all(|cell| table.rows[keeper(cell)].cells[cell].held)
         && (desks..8).all(|desk| table.rows[desk] == Row::default())
         && (0..desks).all(|desk| {
             let row = &table.rows[desk];
@@ -43,7 +43,7 @@ fn has_sound_slot(table: &Table, desk: usize) -> bool {
         clock,
     } = table.rows[desk].slot;
     let names_a_cell =
-        cell < table.tray.cells && table.tray.keepers[cell as usize] as usize != desk;
+        cell < table.tray.cells && table.tray.places[cell as usize].keeper as usize != desk;
     match kind {
         0 => cell == 0 && word == 0 && clock == Clock::ZERO,
         1 => names_a_cell && word == 0 && clock == Clock::ZERO,
@@ -59,20 +59,15 @@ fn is_sound_record(record: &Record) -> bool {
         ..Table::default()
     };
     for cell in 0..32.min(record.tray.cells as usize) {
-        if let Some(row) = table.rows.get_mut(record.tray.keepers[cell] as usize) {
+        if let Some(row) = table.rows.get_mut(record.tray.places[cell].keeper as usize) {
             row.cells[cell].held = true;
         }
     }
     let Some(row) = table.rows.get_mut(record.desk as usize) else {
         return false;
     };
-    *row = Row {
-        clock: record.clock,
-        cells: record.row,
-        slot: record.slot,
-        served: record.served,
-    };
-    record.desk < record.tray.desks && record.slot.kind <= 2 && is_sound(&table)
+    *row = record.row;
+    record.desk < record.tray.desks && record.row.slot.kind <= 2 && is_sound(&table)
 }
 
 /// The first line of the list of refusals that applies to a table, or 0.
@@ -83,7 +78,7 @@ fn refusal(table: &Table, event: &Event) -> u32 {
     let on_a_cell = matches!(event.kind, 1 | 2 | 5);
     let row = table.rows.get(event.desk as usize);
     let slot = row.map_or(0, |row| row.slot.kind);
-    let keeper = table.tray.keepers.get(event.cell as usize);
+    let place = table.tray.places.get(event.cell as usize);
     let own = row.and_then(|row| row.clock.n.get(event.desk as usize));
     let lines = [
         (8, !(1..=5).contains(&event.kind)),
@@ -96,7 +91,7 @@ fn refusal(table: &Table, event: &Event) -> u32 {
         ),
         (
             14,
-            event.kind == 5 && keeper.is_some_and(|&k| u32::from(k) == event.desk),
+            event.kind == 5 && place.is_some_and(|p| u32::from(p.keeper) == event.desk),
         ),
         (16, event.kind == 2 && own == Some(&u32::MAX)),
     ];
@@ -111,15 +106,16 @@ fn part_refusal(record: &Record, event: &Event) -> u32 {
     if !is_sound_record(record) {
         return 9;
     }
-    let kept = record.tray.keepers.get(event.cell as usize) == Some(&record.desk);
+    let place = record.tray.places.get(event.cell as usize);
+    let kept = place.is_some_and(|place| place.keeper == record.desk);
     let lines = [
         (8, ![1, 2, 5].contains(&event.kind)),
         (11, event.cell >= record.tray.cells.into()),
-        (12, record.slot.kind != 0),
+        (12, record.row.slot.kind != 0),
         (14, event.kind == 5 && kept),
         (
             16,
-            event.kind == 2 && record.clock.n[record.desk as usize] == u32::MAX,
+            event.kind == 2 && record.row.clock.n[record.desk as usize] == u32::MAX,
         ),
     ];
     lines
@@ -140,7 +136,7 @@ fn serve_refusal(record: &Record, message: &Message) -> u32 {
     let is_request = message.kind == 1 || message.kind == 2;
     let by_another = message.desk < record.tray.desks && message.desk != record.desk;
     let kept_here = message.cell < record.tray.cells
-        && record.tray.keepers[message.cell as usize] == record.desk;
+        && record.tray.places[message.cell as usize].keeper == record.desk;
     if fits(record, message) && is_request && by_another && kept_here {
         0
     } else {
@@ -152,14 +148,14 @@ fn bring_refusal(record: &Record, message: &Message) -> u32 {
     if !is_sound_record(record) {
         return 9;
     }
-    if record.slot.kind == 0 {
+    let asked = &record.row.slot;
+    if asked.kind == 0 {
         return 13;
     }
     let as_asked = message.desk == record.desk
-        && message.cell == record.slot.cell
-        && (message.kind, record.slot.kind) != (0, 0)
-        && ((message.kind == 3 && record.slot.kind == 1)
-            || (message.kind == 4 && record.slot.kind == 2));
+        && message.cell == asked.cell
+        && (message.kind, asked.kind) != (0, 0)
+        && ((message.kind == 3 && asked.kind == 1) || (message.kind == 4 && asked.kind == 2));
     if fits(record, message) && as_asked {
         0
     } else {
@@ -318,10 +314,10 @@ fn every_single_field_matters_as_the_list_says() {
         let mut rng = Rng::new(seed);
         let given = gen::table(&mut rng);
         let desk = rng.below(8) as u8;
-        for field in 0..FIELDS {
+        for field in 0..Table::FIELDS {
             for value in [0, 1, 5, 1 + rng.below(40), rng.edgy()] {
                 let mut table = given;
-                gen::poke(&mut table, field, value);
+                table.poke(field, value);
                 let sound = is_sound(&table);
                 assert_eq!(
                     table.is_sound(),
@@ -396,7 +392,8 @@ fn the_tables_take_and_bring_are_the_desks_serve_and_bring() {
             };
             let (actor, replied) = match event.kind {
                 kind::TAKE => {
-                    let mut keeper = lent(&before, before.tray.keepers[slot.cell as usize]);
+                    let place = &before.tray.places[slot.cell as usize];
+                    let mut keeper = lent(&before, place.keeper);
                     let (replied, answer) = keeper.serve(&message);
                     let now = table.rows[desk as usize].slot;
                     let sent = (answer.kind, answer.cell, answer.word, answer.clock);
@@ -453,10 +450,11 @@ fn the_tables_take_and_bring_are_the_desks_serve_and_bring() {
 /// A desk's record as it would lend it: with the request still in its slot.
 fn lent(table: &Table, desk: u8) -> Record {
     let mut record = table.record(desk);
-    if record.slot.is_answered() {
-        record.slot.kind -= slot::ANSWER;
+    let slot = &mut record.row.slot;
+    if slot.is_answered() {
+        slot.kind -= slot::ANSWER;
         // What was sent with a request is not in the table any more, and no rule looks at it.
-        (record.slot.word, record.slot.clock) = (0, Clock::ZERO);
+        (slot.word, slot.clock) = (0, Clock::ZERO);
     }
     record
 }
@@ -466,7 +464,12 @@ fn set_up_refuses_in_order() {
     let mut tally = [0; 4];
     for seed in 0..40_000 {
         let mut rng = Rng::new(seed);
-        let (desks, cells, keepers) = gen::setup(&mut rng);
+        let plan = gen::setup(&mut rng);
+        let Plan {
+            desks,
+            cells,
+            keepers,
+        } = plan;
         let number = if !(1..=8).contains(&desks) {
             20
         } else if !(1..=32).contains(&cells) {
@@ -479,15 +482,15 @@ fn set_up_refuses_in_order() {
         } else {
             0
         };
-        match Table::new(desks, cells, &keepers) {
+        match Table::new(&plan) {
             Ok(table) => {
                 assert_eq!(number, 0, "seed {seed}");
                 assert!(is_sound(&table), "seed {seed}");
                 for desk in 0..desks {
-                    let record = Record::new(desks, cells, &keepers, desk);
+                    let record = Record::new(&plan, desk);
                     assert_eq!(record, Ok(table.record(desk as u8)), "seed {seed}");
                 }
-                let no_desk = Record::new(desks, cells, &keepers, desks);
+                let no_desk = Record::new(&plan, desks);
                 assert_eq!(
                     no_desk.map_err(|refusal| refusal as u32),
                     Err(10),
@@ -496,7 +499,7 @@ fn set_up_refuses_in_order() {
             }
             Err(refusal) => {
                 assert_eq!(refusal as u32, number, "seed {seed}");
-                let record = Record::new(desks, cells, &keepers, u32::MAX);
+                let record = Record::new(&plan, u32::MAX);
                 assert_eq!(record, Err(refusal), "seed {seed}");
             }
         }

@@ -1,6 +1,9 @@
 //! Each numbered paragraph of the requirements, by a small example on either side of its edge.
 
-use twin::{frame, script, Cell, Clock, Event, Message, Record, Refusal, Reply, Slot, Table};
+use twin::{
+    frame, script, Cell, Clock, Event, Message, Place, Plan, Record, Refusal, Reply, Row, Slot,
+    Table,
+};
 
 fn clock(numbers: &[u32]) -> Clock {
     let mut clock = Clock::ZERO;
@@ -8,15 +11,8 @@ fn clock(numbers: &[u32]) -> Clock {
     clock
 }
 
-fn keepers(first: &[u32]) -> [u32; 32] {
-    let mut all = [0; 32];
-    all[..first.len()].copy_from_slice(first);
-    all
-}
-
-fn table(desks: u32, first_keepers: &[u32]) -> Table {
-    let cells = first_keepers.len() as u32;
-    Table::new(desks, cells, &keepers(first_keepers)).expect("a good set-up")
+fn table(desks: u32, keepers: &[u32]) -> Table {
+    Table::new(&Plan::new(desks, keepers)).expect("a good set-up")
 }
 
 fn event(kind: u32, desk: u32, cell: u32, word: u32) -> Event {
@@ -69,9 +65,13 @@ fn a_fresh_table_is_held_by_its_keepers_alone() {
             let keeps = matches!((desk, cell), (1, 0) | (0, 1) | (1, 2));
             assert_eq!(*here, if keeps { Cell::FRESH } else { Cell::NONE });
         }
+        let cells = row.cells;
         assert_eq!(
-            (row.clock, row.slot, row.served),
-            (Clock::ZERO, Slot::EMPTY, false)
+            *row,
+            Row {
+                cells,
+                ..Row::UNUSED
+            }
         );
     }
     assert!(table.is_sound());
@@ -80,9 +80,13 @@ fn a_fresh_table_is_held_by_its_keepers_alone() {
 #[test]
 fn setting_up_knows_both_sides_of_its_limits() {
     let all = |keeper| [keeper; 32];
-    let code = |desks, cells, keepers| match Table::new(desks, cells, &keepers) {
-        Ok(_) => 0,
-        Err(refusal) => refusal as u32,
+    let code = |desks, cells, keepers| {
+        let plan = Plan {
+            desks,
+            cells,
+            keepers,
+        };
+        Table::new(&plan).map_or_else(|refusal| refusal as u32, |_| 0)
     };
     assert_eq!(
         [0, 1, 8, 9].map(|desks| code(desks, 1, all(0))),
@@ -98,22 +102,33 @@ fn setting_up_knows_both_sides_of_its_limits() {
     );
     assert_eq!((code(0, 0, all(9)), code(1, 0, all(9))), (20, 21));
     // Keepers past the cell count are ignored, and stored as 0.
-    let mut late = [7; 32];
-    late[..2].copy_from_slice(&[1, 0]);
-    let table = Table::new(2, 2, &late).expect("a good set-up");
-    assert_eq!(table.tray.keepers[..3], [1, 0, 0]);
-    assert_eq!(table.tray.keepers[2..], [0; 30]);
+    let mut late = Plan {
+        desks: 2,
+        cells: 2,
+        keepers: [7; 32],
+    };
+    late.keepers[..2].copy_from_slice(&[1, 0]);
+    let tray = Table::new(&late).expect("a good set-up").tray;
+    assert_eq!(tray.places[..2], [Place { keeper: 1 }, Place { keeper: 0 }]);
+    assert_eq!(tray.places[2..], [Place::UNUSED; 30]);
 }
 
 #[test]
 fn a_record_starts_as_its_row_of_the_fresh_table() {
-    let first = keepers(&[1, 0]);
+    let start = |desks, cells, desk| {
+        let plan = Plan {
+            desks,
+            cells,
+            ..Plan::new(2, &[1, 0])
+        };
+        Record::new(&plan, desk)
+    };
     let fresh = table(2, &[1, 0]);
-    assert_eq!(Record::new(2, 2, &first, 1), Ok(fresh.record(1)));
-    assert_eq!(Record::new(2, 2, &first, 2), Err(Refusal::Desk));
-    assert_eq!(Record::new(9, 0, &first, 9), Err(Refusal::SetupDesks));
-    assert_eq!(Record::new(2, 0, &first, 9), Err(Refusal::SetupCells));
-    assert_eq!(Record::new(1, 1, &first, 9), Err(Refusal::SetupKeeper));
+    assert_eq!(start(2, 2, 1), Ok(fresh.record(1)));
+    assert_eq!(start(2, 2, 2), Err(Refusal::Desk));
+    assert_eq!(start(9, 0, 9), Err(Refusal::SetupDesks));
+    assert_eq!(start(2, 0, 9), Err(Refusal::SetupCells));
+    assert_eq!(start(1, 1, 9), Err(Refusal::SetupKeeper));
 }
 
 #[test]
@@ -366,7 +381,7 @@ fn a_desks_part_acts_for_its_own_desk() {
         assert_eq!(part.event(&event(kind, 0, cell, 0)), refused);
     }
     assert_eq!(part, given);
-    part.slot.kind = 4;
+    part.row.slot.kind = 4;
     assert_eq!(part.event(&event(3, 0, 0, 0)).0.code, 9);
     let mut nobody = Record {
         desk: 2,
@@ -456,8 +471,8 @@ fn an_answer_fits_or_is_refused() {
         assert_eq!(part, given);
     }
     assert_eq!(part.bring(&good), Reply::new(0, 9, 0));
-    assert_eq!(part.clock, good.clock);
-    part.served = true;
+    assert_eq!(part.row.clock, good.clock);
+    part.row.served = true;
     assert_eq!(part.bring(&good), Reply::new(9, 0, 0));
 }
 

@@ -7,41 +7,56 @@
 
 use cwmorlais::sys;
 use twin::eight::{Engine, Part};
-use twin::table::Row;
-use twin::{Cell, Clock, Event, Message, Record, Reply, Slot, Table, Tray};
+use twin::{Cell, Clock, Event, Message, Place, Plan, Record, Reply, Row, Slot, Table, Tray};
 
-/// The same value in the other's type.
+/// The same value in the other's type. Each way names every field of both types, so that a field
+/// which one of them lacks does not compile.
 pub trait Same<T> {
     /// Every field as it is.
     fn same(&self) -> T;
 }
 
-/// Both ways, for structs whose fields have the same names.
+/// Both ways, for structs of the same fields.
 macro_rules! same {
-    ($($twin:ident { $($plain:ident),*; $($made:ident),* })*) => {$(
-        impl Same<sys::$twin> for $twin {
-            fn same(&self) -> sys::$twin {
-                sys::$twin { $($plain: self.$plain,)* $($made: self.$made.same(),)* }
+    ($($name:ident { $($field:ident),* })*) => {$(
+        impl Same<sys::$name> for $name {
+            fn same(&self) -> sys::$name {
+                let $name { $($field),* } = self;
+                sys::$name { $($field: $field.same()),* }
             }
         }
-        impl Same<$twin> for sys::$twin {
-            fn same(&self) -> $twin {
-                $twin { $($plain: self.$plain,)* $($made: self.$made.same(),)* }
+        impl Same<$name> for sys::$name {
+            fn same(&self) -> $name {
+                let sys::$name { $($field),* } = self;
+                $name { $($field: $field.same()),* }
             }
         }
     )*};
 }
 
 same! {
-    Clock { n; }
-    Cell { held, word; stamp }
-    Slot { kind, cell, word; clock }
-    Tray { desks, cells, keepers; }
-    Record { desk, served; tray, clock, row, slot }
-    Event { kind, desk, cell, word; }
-    Reply { code, value, count; }
-    Message { kind, desks, desk, cell, word; clock }
+    Clock { n }
+    Cell { held, word, stamp }
+    Slot { kind, cell, word, clock }
+    Place { keeper }
+    Plan { desks, cells, keepers }
+    Event { kind, desk, cell, word }
+    Reply { code, value, count }
+    Message { kind, desks, desk, cell, word, clock }
 }
+
+/// What is the same in both.
+macro_rules! plain {
+    ($($type:ty),*) => {$(
+        impl Same<$type> for $type {
+            fn same(&self) -> $type {
+                *self
+            }
+        }
+    )*};
+}
+
+plain!(bool, u8, u32);
 
 impl<T, S: Same<T>, const N: usize> Same<[T; N]> for [S; N] {
     fn same(&self) -> [T; N] {
@@ -49,32 +64,123 @@ impl<T, S: Same<T>, const N: usize> Same<[T; N]> for [S; N] {
     }
 }
 
+impl Same<sys::Tray> for Tray {
+    fn same(&self) -> sys::Tray {
+        let Tray {
+            desks,
+            cells,
+            places,
+        } = *self;
+        sys::Tray {
+            counts: sys::Counts { desks, cells },
+            places: places.same(),
+        }
+    }
+}
+
+impl Same<Tray> for sys::Tray {
+    fn same(&self) -> Tray {
+        let sys::Tray { counts, places } = self;
+        let sys::Counts { desks, cells } = *counts;
+        Tray {
+            desks,
+            cells,
+            places: places.same(),
+        }
+    }
+}
+
+/// A twin's row is a seat and cells.
+type Parts = (sys::Seat, [sys::Cell; 32]);
+
+impl Same<Parts> for Row {
+    fn same(&self) -> Parts {
+        let Row {
+            clock,
+            cells,
+            slot,
+            served,
+        } = self;
+        let seat = sys::Seat {
+            clock: clock.same(),
+            slot: slot.same(),
+            served: served.same(),
+        };
+        (seat, cells.same())
+    }
+}
+
+impl Same<Row> for Parts {
+    fn same(&self) -> Row {
+        let (seat, cells) = self;
+        let sys::Seat {
+            clock,
+            slot,
+            served,
+        } = seat;
+        Row {
+            clock: clock.same(),
+            cells: cells.same(),
+            slot: slot.same(),
+            served: served.same(),
+        }
+    }
+}
+
+impl Same<sys::Record> for Record {
+    fn same(&self) -> sys::Record {
+        let Record { tray, desk, row } = self;
+        let (seat, row) = row.same();
+        sys::Record {
+            tray: tray.same(),
+            desk: desk.same(),
+            seat,
+            row,
+        }
+    }
+}
+
+impl Same<Record> for sys::Record {
+    fn same(&self) -> Record {
+        let sys::Record {
+            tray,
+            desk,
+            seat,
+            row,
+        } = *self;
+        Record {
+            tray: tray.same(),
+            desk,
+            row: (seat, row).same(),
+        }
+    }
+}
+
 impl Same<sys::Table> for Table {
     fn same(&self) -> sys::Table {
-        let mut table = sys::Table {
-            tray: self.tray.same(),
-            clocks: std::array::from_fn(|desk| self.rows[desk].clock.same()),
-            slots: std::array::from_fn(|desk| self.rows[desk].slot.same()),
-            served: std::array::from_fn(|desk| self.rows[desk].served),
-            ..sys::Table::default()
-        };
-        for (to, row) in table.cells.chunks_exact_mut(32).zip(&self.rows) {
-            to.copy_from_slice(&Same::<[sys::Cell; 32]>::same(&row.cells));
+        let Table { tray, rows } = self;
+        let mut cells = [sys::Cell::default(); 256];
+        let (of_desks, _) = cells.as_chunks_mut::<32>();
+        let seats = std::array::from_fn(|desk| {
+            let (seat, row) = rows[desk].same();
+            of_desks[desk] = row;
+            seat
+        });
+        sys::Table {
+            cells,
+            tray: tray.same(),
+            seats,
         }
-        table
     }
 }
 
 impl Same<Table> for sys::Table {
     fn same(&self) -> Table {
+        let sys::Table { cells, tray, seats } = self;
+        let (of_desks, _) = cells.as_chunks::<32>();
         Table {
-            tray: self.tray.same(),
-            rows: std::array::from_fn(|desk| Row {
-                clock: self.clocks[desk].same(),
-                cells: std::array::from_fn(|cell| self.cells[32 * desk + cell].same()),
-                slot: self.slots[desk].same(),
-                served: self.served[desk],
-            }),
+            tray: tray.same(),
+            rows: std::array::from_fn(|desk| (seats[desk], of_desks[desk]).same()),
         }
     }
 }
@@ -98,45 +204,57 @@ fn result<T>(code: u32, value: T) -> Result<T, u32> {
 }
 
 impl Part for Proved {
-    fn start(desks: u32, cells: u32, keepers: &[u32; 32], desk: u32) -> Result<Record, u32> {
-        let started = sys::desk_start(desks, cells, keepers, desk);
-        result(started.code, started.record.same())
+    fn start(plan: &Plan, desk: u32) -> Result<Record, u32> {
+        let sys::Started { code, record } = sys::desk_start(plan.same(), desk);
+        result(code, record.same())
     }
 
     fn event(record: &mut Record, event: &Event) -> (Reply, Message) {
         let answer = lent(record, |record| sys::desk_event(record, event.same()));
-        (answer.reply.same(), answer.message.same())
+        answered(answer)
     }
 
     fn serve(record: &mut Record, request: &Message) -> (Reply, Message) {
         let answer = lent(record, |record| sys::desk_serve(record, request.same()));
-        (answer.reply.same(), answer.message.same())
+        answered(answer)
     }
 
     fn bring(record: &mut Record, answer: &Message) -> Reply {
         let answer = lent(record, |record| sys::desk_bring(record, answer.same()));
-        assert_eq!(answer.message, sys::Message::default());
-        answer.reply.same()
+        let (reply, message) = answered(answer);
+        assert_eq!(message, Message::ZERO);
+        reply
     }
 
     fn read(bytes: &[u8]) -> Result<(Message, usize), u32> {
-        let reading = sys::frame_read(bytes);
-        result(reading.code, (reading.message.same(), reading.used))
+        let sys::Reading {
+            code,
+            message,
+            used,
+        } = sys::frame_read(bytes);
+        result(code, (message.same(), used))
     }
 
     fn write(message: &Message, out: &mut [u8]) -> Result<usize, u32> {
-        let written = sys::frame_write(message.same(), out);
-        result(written.code, written.used)
+        let sys::Written { code, used } = sys::frame_write(message.same(), out);
+        result(code, used)
     }
+}
+
+/// What a part gives, as the twin gives it.
+#[must_use]
+pub fn answered(answer: sys::Answer) -> (Reply, Message) {
+    let sys::Answer { reply, message } = answer;
+    (reply.same(), message.same())
 }
 
 /// The proved library's table.
 pub struct ProvedTable(pub sys::Table);
 
 impl Engine for ProvedTable {
-    fn set_up(desks: u32, cells: u32, keepers: &[u32; 32]) -> Result<ProvedTable, u32> {
-        let set_up = sys::table_set_up(desks, cells, keepers);
-        result(set_up.code, ProvedTable(set_up.table))
+    fn set_up(plan: &Plan) -> Result<ProvedTable, u32> {
+        let sys::SetUp { code, table } = sys::table_set_up(plan.same());
+        result(code, ProvedTable(table))
     }
 
     fn event(&mut self, event: &Event) -> Reply {

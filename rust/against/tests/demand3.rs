@@ -9,7 +9,7 @@ use twin::eight::Engine;
 use twin::gen::{good_setup, Mood, Rng};
 use twin::ghost::{Ghost, Shortcut};
 use twin::history::{Broken, Causal, Does, Operation};
-use twin::{Event, Reply, Table, CELLS};
+use twin::{Event, Plan, Reply, Table};
 
 /// The finished reads and taken writes of a run, from its events and replies.
 #[derive(Default)]
@@ -76,11 +76,11 @@ impl Witness {
 }
 
 /// A run's set-up and events, where the twin's table tells who waits.
-fn events(seed: u64) -> (u32, u32, [u32; CELLS], Vec<Event>) {
+fn events(seed: u64) -> (Plan, Vec<Event>) {
     let mut rng = Rng::new(seed);
-    let (desks, _, keepers) = good_setup(&mut rng, 2);
-    let cells = 2 + rng.below(5);
-    let mut table = Table::new(desks, cells, &keepers).expect("a good set-up");
+    let mut plan = good_setup(&mut rng, 2);
+    plan.cells = 2 + rng.below(5);
+    let mut table = Table::new(&plan).expect("a good set-up");
     let mood = Mood::new(&mut rng);
     let events = (1..=300).map(|word| {
         let event = Event {
@@ -91,7 +91,7 @@ fn events(seed: u64) -> (u32, u32, [u32; CELLS], Vec<Event>) {
         event
     });
     let events = events.collect();
-    (desks, cells, keepers, events)
+    (plan, events)
 }
 
 #[test]
@@ -99,8 +99,8 @@ fn every_run_of_the_proved_table_has_its_line_ups() {
     let (mut operations, mut shown, mut blank) = (0, 0, 0);
     let runs = 2_000;
     for seed in 0..runs {
-        let (desks, cells, keepers, events) = events(seed);
-        let mut ours = ProvedTable::set_up(desks, cells, &keepers).expect("a good set-up");
+        let (plan, events) = events(seed);
+        let mut ours = ProvedTable::set_up(&plan).expect("a good set-up");
         let mut witness = Witness::default();
         for event in &events {
             witness.sees(event, &ours.event(event));
@@ -131,8 +131,8 @@ fn the_witness_is_not_blind() {
     ] {
         let mut broken = 0;
         for seed in 0..600 {
-            let (desks, cells, keepers, events) = events(seed);
-            let table = Table::new(desks, cells, &keepers).expect("a good set-up");
+            let (plan, events) = events(seed);
+            let table = Table::new(&plan).expect("a good set-up");
             let mut ghost = Ghost::new(&table.tray, shortcut);
             let mut witness = Witness::default();
             for event in &events {

@@ -37,7 +37,7 @@ impl Part for KeepsServed {
     }
 
     fn bring(record: &mut Record, answer: &Message) -> Reply {
-        record.served = false;
+        record.row.served = false;
         Proved::bring(record, answer)
     }
 }

@@ -2,7 +2,9 @@
 //! and the typed table, do and tell what the twin's table does.
 
 use against::{Same, Tally};
-use cwmorlais::{sys, Brought, Desk, Done, Frame, Read, Received, Refusal, Served, Told, Write};
+use cwmorlais::{
+    sys, Brought, Desk, Done, Frame, Plan, Read, Received, Refusal, Served, Told, Write,
+};
 use twin::data::{kind, slot};
 use twin::gen::{self, good_setup, Mood, Rng};
 use twin::{Event, Record, Reply, Table};
@@ -55,9 +57,10 @@ fn desks_and_their_frames_do_what_the_table_does() {
     let (mut counts, mut refusals) = ([0; 6], 0);
     for seed in 0..8_000 {
         let mut rng = Rng::new(seed);
-        let (desks, cells, keepers) = good_setup(&mut rng, 1);
-        let mut table = Table::new(desks, cells, &keepers).expect("a good set-up");
-        let start = |desk| Desk::start(desks, cells, &keepers, desk).expect("a good set-up");
+        let plan = good_setup(&mut rng, 1);
+        let desks = plan.desks;
+        let mut table = Table::new(&plan).expect("a good set-up");
+        let start = |desk| Desk::start(&plan.same(), desk).expect("a good set-up");
         let mut desk: Vec<Desk> = (0..desks).map(start).collect();
         let mut under_way: Vec<Option<Frame>> = vec![None; desks as usize];
         let mood = Mood::new(&mut rng);
@@ -109,13 +112,17 @@ fn desks_and_their_frames_do_what_the_table_does() {
             }
             for (desk, number) in desk.iter().zip(0..) {
                 let record: Record = desk.record().same();
-                let mut row = table.record(number);
-                assert_eq!(desk.waits(), row.slot.kind != slot::EMPTY);
+                let mut expected = table.record(number);
+                let slot = &mut expected.row.slot;
+                assert_eq!(desk.waits(), slot.kind != slot::EMPTY);
                 assert_eq!(desk.number(), u32::from(number));
-                if row.slot.is_answered() {
-                    row.slot = record.slot; // still asked there
+                if slot.is_answered() {
+                    *slot = record.row.slot; // still asked there
                 }
-                assert!(record == row, "seed {seed}: desk {number} after {event:?}");
+                assert!(
+                    record == expected,
+                    "seed {seed}: desk {number} after {event:?}"
+                );
             }
         }
     }
@@ -129,11 +136,11 @@ fn desks_that_get_any_bytes() {
     let mut tally = Tally::default();
     for seed in 0..100_000 {
         let mut rng = Rng::new(seed);
-        let (desks, cells, keepers) = good_setup(&mut rng, 2);
-        let number = rng.below(desks);
-        let mut desk = Desk::start(desks, cells, &keepers, number).expect("a good set-up");
+        let plan = good_setup(&mut rng, 2);
+        let number = rng.below(plan.desks);
+        let mut desk = Desk::start(&plan.same(), number).expect("a good set-up");
         // Half of them wait.
-        let _ = desk.read(rng.below(cells));
+        let _ = desk.read(rng.below(plan.cells));
         let given: Record = desk.record().same();
         let bytes = if rng.one_in(2) {
             gen::damaged_frame(&mut rng)
@@ -171,9 +178,9 @@ fn the_typed_table_says_what_the_twins_table_says() {
     let mut tally = Tally::default();
     for seed in 0..8_000 {
         let mut rng = Rng::new(seed);
-        let (desks, cells, keepers) = good_setup(&mut rng, 1);
-        let mut twins = Table::new(desks, cells, &keepers).expect("a good set-up");
-        let ours = cwmorlais::Table::set_up(desks, cells, &keepers);
+        let plan = good_setup(&mut rng, 1);
+        let mut twins = Table::new(&plan).expect("a good set-up");
+        let ours = cwmorlais::Table::set_up(&plan.same());
         let mut ours = ours.expect("a good set-up");
         let mood = Mood::new(&mut rng);
         for _ in 0..30 {
@@ -204,6 +211,31 @@ fn the_typed_table_says_what_the_twins_table_says() {
         assert!(*ours.table() == twins.same(), "seed {seed}");
     }
     tally.expect("typed events", &[0, 1, 2, 10, 11, 12, 13, 14], 500);
+}
+
+/// Any keepers make a plan, and set-up says what is wrong with it.
+#[test]
+fn plans_of_any_keepers() {
+    let code = |desks, keepers: &[u32]| {
+        let plan = Plan::new(desks, keepers);
+        assert_eq!((plan.desks, plan.cells as usize), (desks, keepers.len()));
+        let kept = keepers.len().min(32);
+        assert_eq!(plan.keepers[..kept], keepers[..kept]);
+        assert_eq!(plan.keepers[kept..], [0; 32][kept..]);
+        let set_up = cwmorlais::Table::set_up(&plan).map_or_else(Refusal::number, |_| 0);
+        let start = Desk::start(&plan, 0).map_or_else(Refusal::number, |_| 0);
+        assert_eq!(set_up, start, "{plan:?}");
+        set_up
+    };
+    let counts = [0, 1, 31, 32, 33, 256, 288];
+    assert_eq!(
+        counts.map(|count| code(2, &vec![1; count])),
+        [21, 0, 0, 0, 21, 21, 21]
+    );
+    assert_eq!(counts.map(|count| code(9, &vec![9; count])), [20; 7]);
+    assert_eq!([code(2, &[1, 2]), code(2, &[2; 33])], [22, 21]);
+    let plan = Plan::new(2, &[1]);
+    assert_eq!(Desk::start(&plan, 2), Err(Refusal::Desk));
 }
 
 #[test]

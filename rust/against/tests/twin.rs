@@ -2,11 +2,11 @@
 //! same input every field of reply, message, record, table and output is the same. All inputs come
 //! from seeds, and each test says how much of each kind it saw.
 
-use against::{Same, Tally};
+use against::{answered, Same, Tally};
 use cwmorlais::sys;
 use twin::data::slot;
-use twin::gen::{self, Mood, Rng, BREAKS, FIELDS};
-use twin::{frame, Event, Message, Record, Refusal, Reply, Table};
+use twin::gen::{self, Mood, Poke, Rng, BREAKS};
+use twin::{frame, Event, Message, Plan, Record, Refusal, Reply, Table};
 
 /// One event on the same table by both; what the twin made of it.
 fn table_event(tally: &mut Tally, given: &Table, event: &Event, seed: u64) -> Table {
@@ -28,8 +28,7 @@ fn parts(tallies: &mut [Tally; 3], given: &Record, event: &Event, message: &Mess
                     ours: Step<sys::Record, sys::Answer>,
                     twins: Step<Record, (Reply, Message)>| {
         let (mut our_record, mut twins_record) = (given.same(), *given);
-        let sys::Answer { reply, message } = ours(&mut our_record);
-        let answer = (reply.same(), message.same());
+        let answer = answered(ours(&mut our_record));
         assert_eq!(
             answer,
             twins(&mut twins_record),
@@ -37,7 +36,7 @@ fn parts(tallies: &mut [Tally; 3], given: &Record, event: &Event, message: &Mess
         );
         let same = our_record == twins_record.same();
         assert!(same, "seed {seed}: another record by part {which}");
-        tallies[which].add(reply.code);
+        tallies[which].add(answer.0.code);
     };
     let (our_event, our_message) = (event.same(), message.same());
     hold(0, &|r| sys::desk_event(r, our_event), &|r| r.event(event));
@@ -60,8 +59,7 @@ fn runs_of_the_table() {
         let mut rng = Rng::new(seed);
         // A fresh table, or any sound one.
         let mut table = if rng.one_in(2) {
-            let (desks, cells, keepers) = gen::good_setup(&mut rng, 1);
-            Table::new(desks, cells, &keepers).expect("a good set-up")
+            Table::new(&gen::good_setup(&mut rng, 1)).expect("a good set-up")
         } else {
             gen::table(&mut rng)
         };
@@ -81,10 +79,13 @@ fn one_long_run_of_each_shape() {
     for desks in 1..=8 {
         for cells in 1..=32 {
             let mut rng = Rng::new(u64::from(100 * desks + cells));
-            let keepers = std::array::from_fn(|_| rng.below(desks));
-            let set_up = sys::table_set_up(desks, cells, &keepers);
-            let mut ours = set_up.table;
-            let mut twins = Table::new(desks, cells, &keepers).expect("a good set-up");
+            let plan = Plan {
+                desks,
+                cells,
+                keepers: std::array::from_fn(|_| rng.below(desks)),
+            };
+            let mut ours = sys::table_set_up(plan.same()).table;
+            let mut twins = Table::new(&plan).expect("a good set-up");
             let mood = Mood::new(&mut rng);
             for _ in 0..300 {
                 let event = mood.event_at(&mut rng, &twins);
@@ -128,10 +129,10 @@ fn tables_with_every_field_changed() {
     for seed in 0..24 {
         let mut rng = Rng::new(seed);
         let given = gen::table(&mut rng);
-        for field in 0..FIELDS {
+        for field in 0..Table::FIELDS {
             for value in [0, 1, 5, 1 + rng.below(40), rng.edgy()] {
                 let mut table = given;
-                gen::poke(&mut table, field, value);
+                table.poke(field, value);
                 let event = gen::wild_event(&mut rng, &given.tray);
                 table_event(&mut tally, &table, &event, seed);
             }
@@ -172,29 +173,14 @@ fn records_with_every_field_changed() {
     for seed in 0..400 {
         let mut rng = Rng::new(seed);
         let given = gen::record(&mut rng);
-        // In a table whose row this is, so that a table's fields are the record's.
-        let mut around = Table {
-            tray: given.tray,
-            ..Table::default()
-        };
-        let row = &mut around.rows[usize::from(given.desk)];
-        (row.clock, row.cells) = (given.clock, given.row);
-        (row.slot, row.served) = (given.slot, given.served);
-        for field in 0..FIELDS {
+        for field in 0..Record::FIELDS {
             let value = match rng.below(3) {
                 0 => rng.below(6),
                 1 => rng.below(40),
                 _ => rng.edgy(),
             };
-            let mut table = around;
-            gen::poke(&mut table, field, value);
-            if table == around {
-                continue;
-            }
-            let record = Record {
-                tray: table.tray,
-                ..table.record(given.desk)
-            };
+            let mut record = given;
+            record.poke(field, value);
             if record == given {
                 continue;
             }
@@ -245,7 +231,7 @@ fn take_and_bring_are_serve_and_bring() {
         };
         let is_take = slot.is_asked();
         let actor = if is_take {
-            given.tray.keepers[usize::from(slot.cell)]
+            given.tray.places[usize::from(slot.cell)].keeper
         } else {
             desk as u8
         };
@@ -266,7 +252,7 @@ fn take_and_bring_are_serve_and_bring() {
         let after: Table = table.same();
         assert!(record == lent(&after, actor).same(), "seed {seed}");
         if is_take {
-            let now = table.slots[desk as usize];
+            let now = table.seats[desk as usize].slot;
             let sent = answer.message;
             let slot = (sent.kind, sent.cell, sent.word, sent.clock);
             assert_eq!(
@@ -287,10 +273,11 @@ fn take_and_bring_are_serve_and_bring() {
 /// A desk's record as it would lend it: with the request still in its slot.
 fn lent(table: &Table, desk: u8) -> Record {
     let mut record = table.record(desk);
-    if record.slot.is_answered() {
-        record.slot.kind -= slot::ANSWER;
+    let slot = &mut record.row.slot;
+    if slot.is_answered() {
+        slot.kind -= slot::ANSWER;
         // What was sent is not in the table any more, and no rule looks at it.
-        (record.slot.word, record.slot.clock) = (0, twin::Clock::ZERO);
+        (slot.word, slot.clock) = (0, twin::Clock::ZERO);
     }
     record
 }
@@ -389,18 +376,18 @@ fn frames_written() {
 #[test]
 fn set_up_and_start() {
     let mut tallies = [Tally::default(), Tally::default()];
-    let mut hold = |desks, cells, keepers: &[u32; 32], desk| {
-        let what = (desks, cells, keepers, desk);
-        let ours = sys::table_set_up(desks, cells, keepers);
-        let (number, twins) = match Table::new(desks, cells, keepers) {
+    let mut hold = |plan: &Plan, desk| {
+        let what = (plan, desk);
+        let ours = sys::table_set_up(plan.same());
+        let (number, twins) = match Table::new(plan) {
             Ok(table) => (0, table),
             Err(refusal) => (code(refusal), Table::default()),
         };
         assert_eq!(ours.code, number, "{what:?}");
         assert!(ours.table == twins.same(), "{what:?}: another table");
         tallies[0].add(number);
-        let ours = sys::desk_start(desks, cells, keepers, desk);
-        let (number, twins) = match Record::new(desks, cells, keepers, desk) {
+        let ours = sys::desk_start(plan.same(), desk);
+        let (number, twins) = match Record::new(plan, desk) {
             Ok(record) => (0, record),
             Err(refusal) => (code(refusal), Record::default()),
         };
@@ -410,13 +397,13 @@ fn set_up_and_start() {
     };
     for seed in 0..200_000 {
         let mut rng = Rng::new(seed);
-        let (desks, cells, keepers) = gen::setup(&mut rng);
+        let plan = gen::setup(&mut rng);
         let desk = match rng.below(4) {
-            0 => desks.wrapping_add(rng.below(2)),
+            0 => plan.desks.wrapping_add(rng.below(2)),
             1 => rng.edgy(),
             _ => rng.below(8),
         };
-        hold(desks, cells, &keepers, desk);
+        hold(&plan, desk);
     }
     // Both sides of every edge, and numbers that a narrower type would mistake.
     let edges = [
@@ -441,9 +428,13 @@ fn set_up_and_start() {
         for cells in edges {
             for keeper in edges {
                 for place in [0, 30, 31] {
-                    let mut keepers = [0; 32];
-                    keepers[place] = keeper;
-                    hold(desks, cells, &keepers, keeper);
+                    let mut plan = Plan {
+                        desks,
+                        cells,
+                        keepers: [0; 32],
+                    };
+                    plan.keepers[place] = keeper;
+                    hold(&plan, keeper);
                 }
             }
         }

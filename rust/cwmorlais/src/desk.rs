@@ -1,7 +1,7 @@
 //! One desk's part.
 
 use crate::sys::{self, Answer, Event, Record};
-use crate::{read_frame, Frame, Message, Refusal, CELLS};
+use crate::{read_frame, Frame, Message, Plan, Refusal};
 
 /// One desk: what it holds, what it knows of the others, and what it waits for.
 ///
@@ -82,14 +82,8 @@ const BLANK: u32 = 2;
 
 impl Desk {
     /// A desk before its first event: 20, 21, 22, or 10 if `desk` is not below the desk count.
-    /// Keepers past the cell count are ignored ([`keepers`](crate::keepers) fills them up).
-    pub fn start(
-        desks: u32,
-        cells: u32,
-        keepers: &[u32; CELLS],
-        desk: u32,
-    ) -> Result<Desk, Refusal> {
-        let started = sys::desk_start(desks, cells, keepers, desk);
+    pub fn start(plan: &Plan, desk: u32) -> Result<Desk, Refusal> {
+        let started = sys::desk_start(*plan, desk);
         match started.code {
             DONE => Ok(Desk {
                 record: started.record,
@@ -160,7 +154,7 @@ impl Desk {
     /// Whether the desk waits for an answer.
     #[must_use]
     pub fn waits(&self) -> bool {
-        self.record.slot.kind != 0
+        self.record.seat.slot.kind != 0
     }
 
     /// The record behind it, to look at.
@@ -180,8 +174,8 @@ impl Desk {
     }
 
     fn request(&self, message: Message) -> Frame {
-        let keeper = self.record.tray.keepers[usize::from(message.cell)];
-        Frame::of(message, keeper)
+        let place = &self.record.tray.places[usize::from(message.cell)];
+        Frame::of(message, place.keeper)
     }
 
     fn serve_message(&mut self, request: Message) -> Result<Served, Refusal> {

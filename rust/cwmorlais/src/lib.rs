@@ -16,7 +16,7 @@
 //! It shows the blank that was answered, but does not hold it, and so asks again.
 //!
 //! ```
-//! use cwmorlais::{keepers, Desk, Frame, Read, Refusal, Told, Write};
+//! use cwmorlais::{Desk, Frame, Plan, Read, Refusal, Told, Write};
 //!
 //! fn asked(read: Read) -> Frame {
 //!     let Read::Asked(request) = read else { panic!("{read:?}") };
@@ -24,10 +24,10 @@
 //! }
 //!
 //! # fn main() -> Result<(), Refusal> {
-//! let keepers = keepers([1, 0]);
-//! let mut desk0 = Desk::start(3, 2, &keepers, 0)?;
-//! let mut desk1 = Desk::start(3, 2, &keepers, 1)?;
-//! let mut desk2 = Desk::start(3, 2, &keepers, 2)?;
+//! let plan = Plan::new(3, &[1, 0]); // three desks; a keeper for each of two cells
+//! let mut desk0 = Desk::start(&plan, 0)?;
+//! let mut desk1 = Desk::start(&plan, 1)?;
+//! let mut desk2 = Desk::start(&plan, 2)?;
 //!
 //! // Desk 0 reads the datum. Its keeper answers, and the answer is slow.
 //! let request = asked(desk0.read(0)?);
@@ -67,6 +67,7 @@
 
 mod desk;
 mod frame;
+mod plan;
 mod refusal;
 // The one place with `unsafe`: what is declared there is C's, and Rust cannot see it.
 #[allow(unsafe_code)]
@@ -75,6 +76,7 @@ mod table;
 
 pub use desk::{Brought, Desk, Read, Received, Served, Told, Write};
 pub use frame::{read_frame, write_frame, Frame, FRAME_BYTES};
+pub use plan::Plan;
 pub use refusal::Refusal;
 pub use sys::{Clock, Message};
 pub use table::{Done, Event, Table};
@@ -83,23 +85,6 @@ pub use table::{Done, Event, Table};
 pub const DESKS: usize = 8;
 /// The most cells a tray can have.
 pub const CELLS: usize = 32;
-
-/// Keepers as set-up takes them: those of the first cells, and 0, which is ignored, past them.
-///
-/// ```
-/// assert_eq!(cwmorlais::keepers([1, 0])[..3], [1, 0, 0]);
-/// ```
-#[must_use]
-pub const fn keepers<const N: usize>(first: [u32; N]) -> [u32; CELLS] {
-    const { assert!(N <= CELLS, "a tray has at most 32 cells") };
-    let mut keepers = [0; CELLS];
-    let mut cell = 0;
-    while cell < N {
-        keepers[cell] = first[cell];
-        cell += 1;
-    }
-    keepers
-}
 
 /// The example of `rust/README.md` compiles.
 #[cfg(doctest)]

@@ -39,34 +39,92 @@ pub struct Slot {
     pub clock: Clock,
 }
 
-/// How many desks (1 to 8) and cells (1 to 32), and each cell's keeper.
+/// A cell's place in the tray, the same for all desks.
+#[repr(C)]
+#[derive(Clone, Copy, Debug, Default, PartialEq, Eq)]
+pub struct Place {
+    /// The desk that keeps the cell.
+    pub keeper: u8,
+}
+
+/// How many desks and cells.
+#[repr(C)]
+#[derive(Clone, Copy, Debug, Default, PartialEq, Eq)]
+pub struct Counts {
+    /// 1 to 8.
+    pub desks: u8,
+    /// 1 to 32.
+    pub cells: u8,
+}
+
+/// What all desks know from the start.
 #[repr(C)]
 #[derive(Clone, Copy, Debug, Default, PartialEq, Eq)]
 pub struct Tray {
-    /// How many desks.
-    pub desks: u8,
-    /// How many cells.
-    pub cells: u8,
-    /// Each cell's keeper; 0 past the cell count.
-    pub keepers: [u8; 32],
+    /// How many there are.
+    pub counts: Counts,
+    /// The cells' places; all zero past the cell count.
+    pub places: [Place; 32],
+}
+
+/// What a desk has beside its cells.
+#[repr(C)]
+#[derive(Clone, Copy, Debug, Default, PartialEq, Eq)]
+pub struct Seat {
+    /// Its clock.
+    pub clock: Clock,
+    /// What it waits for. In a record a request stays here until its answer is brought.
+    pub slot: Slot,
+    /// Whether it served a write since it began to wait, so that it must not keep the answer.
+    pub served: bool,
 }
 
 /// A desk's record.
 #[repr(C)]
 #[derive(Clone, Copy, Debug, Default, PartialEq, Eq)]
 pub struct Record {
-    /// The counts and keepers.
+    /// The counts and places.
     pub tray: Tray,
     /// The desk's number.
     pub desk: u8,
-    /// Its clock.
-    pub clock: Clock,
+    /// What it has beside its cells.
+    pub seat: Seat,
     /// The cells as it has them.
     pub row: [Cell; 32],
-    /// What it waits for: a request stays here until its answer is brought.
-    pub slot: Slot,
-    /// Whether it served a write since it began to wait.
-    pub served: bool,
+}
+
+/// All desks, with their messages under way.
+#[repr(C)]
+#[derive(Clone, Copy, Debug, PartialEq, Eq)]
+pub struct Table {
+    /// Desk `d`'s cell `c` is at `32 * d + c`.
+    pub cells: [Cell; 256],
+    /// The counts and places.
+    pub tray: Tray,
+    /// What each desk has beside its cells.
+    pub seats: [Seat; 8],
+}
+
+impl Default for Table {
+    fn default() -> Table {
+        Table {
+            cells: [Cell::default(); 256],
+            tray: Tray::default(),
+            seats: Default::default(),
+        }
+    }
+}
+
+/// All that set-up and start are told, in any numbers.
+#[repr(C)]
+#[derive(Clone, Copy, Debug, Default, PartialEq, Eq)]
+pub struct Plan {
+    /// How many desks.
+    pub desks: u32,
+    /// How many cells.
+    pub cells: u32,
+    /// Each cell's keeper; those past the cell count are ignored.
+    pub keepers: [u32; 32],
 }
 
 /// Kinds 1 read, 2 write, 5 drop; for a table also 3 take, 4 bring.
@@ -134,6 +192,16 @@ pub struct Started {
     pub record: Record,
 }
 
+/// A fresh table, or a refusal with an all-zero one.
+#[repr(C)]
+#[derive(Clone, Copy, Debug, Default, PartialEq, Eq)]
+pub struct SetUp {
+    /// 0, or a refusal's number.
+    pub code: u32,
+    /// The table.
+    pub table: Table,
+}
+
 /// A message read, or a refusal with an all-zero one and 0 used.
 #[repr(C)]
 #[derive(Clone, Copy, Debug, Default, PartialEq, Eq)]
@@ -156,44 +224,6 @@ pub struct Written {
     pub used: usize,
 }
 
-/// All desks, with their messages under way.
-#[repr(C)]
-#[derive(Clone, Copy, Debug, PartialEq, Eq)]
-pub struct Table {
-    /// The counts and keepers.
-    pub tray: Tray,
-    /// Each desk's clock.
-    pub clocks: [Clock; 8],
-    /// What each desk waits for.
-    pub slots: [Slot; 8],
-    /// Whether each served a write since it began to wait.
-    pub served: [bool; 8],
-    /// Desk `d`'s cell `c` is at `32 * d + c`.
-    pub cells: [Cell; 256],
-}
-
-impl Default for Table {
-    fn default() -> Table {
-        Table {
-            tray: Tray::default(),
-            clocks: Default::default(),
-            slots: Default::default(),
-            served: Default::default(),
-            cells: [Cell::default(); 256],
-        }
-    }
-}
-
-/// A fresh table, or a refusal with an all-zero one.
-#[repr(C)]
-#[derive(Clone, Copy, Debug, Default, PartialEq, Eq)]
-pub struct SetUp {
-    /// 0, or a refusal's number.
-    pub code: u32,
-    /// The table.
-    pub table: Table,
-}
-
 /// Reads the frame that `bytes` begins with: 30 to 36.
 #[must_use]
 pub fn frame_read(bytes: &[u8]) -> Reading {
@@ -214,7 +244,7 @@ pub fn frame_write(message: Message, out: &mut [u8]) -> Written {
 unsafe extern "C" {
     /// A fresh record: 20, 21, 22, then 10.
     #[link_name = "cwmorlais_desk_start"]
-    pub safe fn desk_start(desks: u32, cells: u32, keepers: &[u32; 32], desk: u32) -> Started;
+    pub safe fn desk_start(plan: Plan, desk: u32) -> Started;
     /// The desk's user wants something: 9, 8, 11, 12, 14, 16. Code 1 comes with the request.
     #[link_name = "cwmorlais_desk_event"]
     pub safe fn desk_event(record: &mut Record, event: Event) -> Answer;
@@ -226,7 +256,7 @@ unsafe extern "C" {
     pub safe fn desk_bring(record: &mut Record, answer: Message) -> Answer;
     /// A fresh table: 20, 21, 22.
     #[link_name = "cwmorlais_table_set_up"]
-    pub safe fn table_set_up(desks: u32, cells: u32, keepers: &[u32; 32]) -> SetUp;
+    pub safe fn table_set_up(plan: Plan) -> SetUp;
     /// One event: 9, 8, 10, 11, 12, 13, 14, 16.
     #[link_name = "cwmorlais_table_event"]
     pub safe fn table_event(table: &mut Table, event: Event) -> Reply;
@@ -234,11 +264,13 @@ unsafe extern "C" {
     fn cwmorlais_frame_write(message: Message, out: *mut u8, room: usize) -> Written;
 }
 
-/// Holds each type to the header's layout: its size, and where each field stands.
+/// Holds each type to the header's layout: its size, and where each field stands. A field that is
+/// left out does not compile.
 macro_rules! layout {
     ($($type:ident $size:literal { $($field:ident $place:literal),* })*) => {
         const _: () = {
             $(
+                let _: fn($type) = |$type { $($field: _),* }| {};
                 assert!(size_of::<$type>() == $size, stringify!($type));
                 $(assert!(
                     std::mem::offset_of!($type, $field) == $place,
@@ -253,15 +285,19 @@ layout! {
     Clock 32 { n 0 }
     Cell 40 { held 0, word 4, stamp 8 }
     Slot 40 { kind 0, cell 1, word 4, clock 8 }
-    Tray 34 { desks 0, cells 1, keepers 2 }
-    Record 1392 { tray 0, desk 34, clock 36, row 68, slot 1348, served 1388 }
+    Place 1 { keeper 0 }
+    Counts 2 { desks 0, cells 1 }
+    Tray 34 { counts 0, places 2 }
+    Seat 76 { clock 0, slot 32, served 72 }
+    Record 1392 { tray 0, desk 34, seat 36, row 112 }
+    Table 10884 { cells 0, tray 10240, seats 10276 }
+    Plan 136 { desks 0, cells 4, keepers 8 }
     Event 16 { kind 0, desk 4, cell 8, word 12 }
     Reply 12 { code 0, value 4, count 8 }
     Message 40 { kind 0, desks 1, desk 2, cell 3, word 4, clock 8 }
     Answer 52 { reply 0, message 12 }
     Started 1396 { code 0, record 4 }
+    SetUp 10888 { code 0, table 4 }
     Reading 56 { code 0, message 4, used 48 }
     Written 16 { code 0, used 8 }
-    Table 10860 { tray 0, clocks 36, slots 292, served 612, cells 620 }
-    SetUp 10864 { code 0, table 4 }
 }

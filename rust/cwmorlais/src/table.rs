@@ -1,14 +1,14 @@
 //! All desks at once.
 
-use crate::{sys, Refusal, CELLS};
+use crate::{sys, Plan, Refusal};
 
 /// The table of all desks with their messages under way, for a program that plays a tray's whole
 /// history: it says of each event what its desk would be told.
 ///
 /// ```
-/// use cwmorlais::{keepers, Done, Event, Refusal, Table};
+/// use cwmorlais::{Done, Event, Plan, Refusal, Table};
 ///
-/// let mut table = Table::set_up(2, 1, &keepers([1]))?;
+/// let mut table = Table::set_up(&Plan::new(2, &[1]))?;
 /// assert_eq!(table.event(Event::Write { desk: 0, cell: 0, word: 27 })?, Done::Asked);
 /// assert_eq!(table.event(Event::Read { desk: 0, cell: 0 }), Err(Refusal::Waits));
 /// assert_eq!(table.event(Event::Take { desk: 0 })?, Done::Done { value: 0, dropped: 0 });
@@ -78,9 +78,9 @@ pub enum Done {
 }
 
 impl Table {
-    /// A fresh table: 20, 21, 22. Keepers past the cell count are ignored.
-    pub fn set_up(desks: u32, cells: u32, keepers: &[u32; CELLS]) -> Result<Table, Refusal> {
-        let set_up = sys::table_set_up(desks, cells, keepers);
+    /// A fresh table: 20, 21, 22.
+    pub fn set_up(plan: &Plan) -> Result<Table, Refusal> {
+        let set_up = sys::table_set_up(*plan);
         match set_up.code {
             0 => Ok(Table {
                 table: set_up.table,

@@ -6,9 +6,6 @@ use twin::script::LONGEST_INPUT;
 fn main() {
     let seed = std::env::args().nth(1).and_then(|word| word.parse().ok());
     let mut rng = Rng::new(seed.expect("usage: random SEED"));
-    let (desks, cells, keepers) = good_setup(&mut rng, 2);
-    print!(
-        "{}",
-        script(&mut rng, desks, cells, &keepers, LONGEST_INPUT)
-    );
+    let plan = good_setup(&mut rng, 2);
+    print!("{}", script(&mut rng, &plan, LONGEST_INPUT));
 }

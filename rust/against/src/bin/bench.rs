@@ -12,7 +12,7 @@ use cwmorlais::sys;
 use twin::data::{kind, slot};
 use twin::gen::{self, Rng};
 use twin::script::LONGEST_INPUT;
-use twin::{frame, Cell, Clock, Event, Message, Record, Slot, Table, CELLS, DESKS};
+use twin::{frame, Cell, Clock, Event, Message, Plan, Record, Slot, Table, DESKS};
 
 fn main() -> ExitCode {
     let programs: Vec<PathBuf> = std::env::args_os().skip(1).map(PathBuf::from).collect();
@@ -180,10 +180,18 @@ fn side<S: Copy>(
     }
 }
 
+/// Each desk keeps as many cells as any other, or one more.
+fn plan(desks: u32, cells: u32) -> Plan {
+    Plan {
+        desks,
+        cells,
+        keepers: std::array::from_fn(|cell| cell as u32 % desks),
+    }
+}
+
 /// A table where every desk holds every cell, and any clock past 1 drops all copies.
 fn full(desks: u32, cells: u32) -> Table {
-    let keepers = std::array::from_fn(|cell| cell as u32 % desks);
-    let mut table = Table::new(desks, cells, &keepers).expect("a good set-up");
+    let mut table = Table::new(&plan(desks, cells)).expect("a good set-up");
     for row in &mut table.rows[..desks as usize] {
         row.clock = all(desks, 5);
         row.cells[..cells as usize].fill(Cell {
@@ -272,15 +280,15 @@ fn tables(desks: u32, cells: u32) {
         assert_eq!(count, dropped(desks, cells, kind == kind::TAKE));
         say(&format!("{name}, drops {count} copies"), pair);
     }
-    let keepers = table.tray.keepers.map(u32::from);
+    let plan = plan(desks, cells);
     let pair = pair(
         State::New,
-        (keepers, keepers),
-        |keepers| {
-            black_box(sys::table_set_up(desks, cells, keepers));
+        (plan.same(), plan),
+        |plan| {
+            black_box(sys::table_set_up(*plan));
         },
-        |keepers| {
-            let _ = black_box(Table::new(desks, cells, keepers));
+        |plan| {
+            let _ = black_box(Table::new(plan));
         },
     );
     say("set up", pair);
@@ -351,7 +359,7 @@ fn records(desks: u32, cells: u32) {
     let pair = serve(State::Copies, write);
     say(&format!("serve a write, drops {drops} copies"), pair);
     let mut asker = full(desks, cells).record(1);
-    asker.slot.kind = slot::READ_ASKED;
+    asker.row.slot.kind = slot::READ_ASKED;
     let answer = Message {
         kind: slot::READ_ANSWERED,
         ..write
@@ -369,15 +377,15 @@ fn records(desks: u32, cells: u32) {
     );
     let drops = dropped(desks, cells, false);
     say(&format!("bring, drops {drops} copies"), pair);
-    let keepers = keeper.tray.keepers.map(u32::from);
+    let plan = plan(desks, cells);
     let pair = self::pair(
         State::New,
-        (keepers, keepers),
-        |keepers| {
-            black_box(sys::desk_start(desks, cells, keepers, 0));
+        (plan.same(), plan),
+        |plan| {
+            black_box(sys::desk_start(*plan, 0));
         },
-        |keepers| {
-            let _ = black_box(Record::new(desks, cells, keepers, 0));
+        |plan| {
+            let _ = black_box(Record::new(plan, 0));
         },
     );
     say("start", pair);
@@ -447,8 +455,7 @@ fn scripts(ours: &Path, twins: &Path) {
     );
     heading("A script", "us");
     for (desks, cells) in [(8, 32), (2, 4)] {
-        let keepers: [u32; CELLS] = std::array::from_fn(|cell| cell as u32 % desks);
-        let script = gen::script(&mut Rng::new(1), desks, cells, &keepers, LONGEST_INPUT);
+        let script = gen::script(&mut Rng::new(1), &plan(desks, cells), LONGEST_INPUT);
         let two_lines: String = script.split_inclusive('\n').take(2).collect();
         let events = script.lines().count() - 2;
         let whole = script_times(ours, twins, &script);

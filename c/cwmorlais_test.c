@@ -1,6 +1,6 @@
 /* 01's whole case, played by three desks that lend their records and send each other frames, and on a lent table beside them; and refusals,
- * which leave what is lent as it was. The compiler holds the header to the places of crates/lent/proofs/Places.antt. No header of the C library
- * is used, so any C compiler for x86-64 will do. */
+ * which leave what is lent as it was. The compiler holds the header to the places of crates/cwmorlais/proofs/Places.antt. No header of the C
+ * library is used, so any C compiler for x86-64 will do. */
 #include <stddef.h>
 
 #include "cwmorlais.h"
@@ -13,15 +13,19 @@ int printf(const char *form, ...);
 AT(clock, n, 0) SIZE(clock, 32)
 AT(cell, held, 0) AT(cell, word, 4) AT(cell, stamp, 8) SIZE(cell, 40)
 AT(slot, kind, 0) AT(slot, cell, 1) AT(slot, word, 4) AT(slot, clock, 8) SIZE(slot, 40)
-AT(tray, desks, 0) AT(tray, cells, 1) AT(tray, keepers, 2) SIZE(tray, 34)
-AT(record, tray, 0) AT(record, desk, 34) AT(record, clock, 36) AT(record, row, 68) AT(record, slot, 1348) AT(record, served, 1388) SIZE(record, 1392)
-AT(table, tray, 0) AT(table, clocks, 36) AT(table, slots, 292) AT(table, served, 612) AT(table, cells, 620) SIZE(table, 10860)
+AT(place, keeper, 0) SIZE(place, 1)
+AT(counts, desks, 0) AT(counts, cells, 1) SIZE(counts, 2)
+AT(tray, counts, 0) AT(tray, places, 2) SIZE(tray, 34)
+AT(seat, clock, 0) AT(seat, slot, 32) AT(seat, served, 72) SIZE(seat, 76)
+AT(record, tray, 0) AT(record, desk, 34) AT(record, seat, 36) AT(record, row, 112) SIZE(record, 1392)
+AT(table, cells, 0) AT(table, tray, 10240) AT(table, seats, 10276) SIZE(table, 10884)
+AT(plan, desks, 0) AT(plan, cells, 4) AT(plan, keepers, 8) SIZE(plan, 136)
 AT(event, kind, 0) AT(event, desk, 4) AT(event, cell, 8) AT(event, word, 12) SIZE(event, 16)
 AT(reply, code, 0) AT(reply, value, 4) AT(reply, count, 8) SIZE(reply, 12)
 AT(message, kind, 0) AT(message, desks, 1) AT(message, desk, 2) AT(message, cell, 3) AT(message, word, 4) AT(message, clock, 8) SIZE(message, 40)
 AT(answer, reply, 0) AT(answer, message, 12) SIZE(answer, 52)
 AT(started, code, 0) AT(started, record, 4) SIZE(started, 1396)
-AT(set_up, code, 0) AT(set_up, table, 4) SIZE(set_up, 10864)
+AT(set_up, code, 0) AT(set_up, table, 4) SIZE(set_up, 10888)
 AT(reading, code, 0) AT(reading, message, 4) AT(reading, used, 48) SIZE(reading, 56)
 AT(written, code, 0) AT(written, used, 8) SIZE(written, 16)
 
@@ -32,7 +36,7 @@ static void expect(bool holds, const char *what, int line) {
         passed++;
     } else {
         failed++;
-        printf("lent_test: line %d: %s\n", line, what);
+        printf("cwmorlais_test: line %d: %s\n", line, what);
     }
 }
 
@@ -63,21 +67,24 @@ static bool same_slot(const cwmorlais_slot *a, const cwmorlais_slot *b) {
 }
 
 static bool same_tray(const cwmorlais_tray *a, const cwmorlais_tray *b) {
-    bool same = a->desks == b->desks && a->cells == b->cells;
-    for (int c = 0; c < 32; c++) same = same && a->keepers[c] == b->keepers[c];
+    bool same = a->counts.desks == b->counts.desks && a->counts.cells == b->counts.cells;
+    for (int c = 0; c < 32; c++) same = same && a->places[c].keeper == b->places[c].keeper;
     return same;
 }
 
+static bool same_seat(const cwmorlais_seat *a, const cwmorlais_seat *b) {
+    return same_clock(&a->clock, &b->clock) && same_slot(&a->slot, &b->slot) && a->served == b->served;
+}
+
 static bool same_record(const cwmorlais_record *a, const cwmorlais_record *b) {
-    bool same = same_tray(&a->tray, &b->tray) && a->desk == b->desk && same_clock(&a->clock, &b->clock) && same_slot(&a->slot, &b->slot)
-        && a->served == b->served;
+    bool same = same_tray(&a->tray, &b->tray) && a->desk == b->desk && same_seat(&a->seat, &b->seat);
     for (int c = 0; c < 32; c++) same = same && same_cell(&a->row[c], &b->row[c]);
     return same;
 }
 
 /* A desk's row of the table, with the tray and the desk's number. */
 static cwmorlais_record row_of(const cwmorlais_table *t, uint8_t d) {
-    cwmorlais_record v = {.tray = t->tray, .desk = d, .clock = t->clocks[d], .slot = t->slots[d], .served = t->served[d]};
+    cwmorlais_record v = {.tray = t->tray, .desk = d, .seat = t->seats[d]};
     for (int c = 0; c < 32; c++) v.row[c] = t->cells[d * 32 + c];
     return v;
 }
@@ -101,7 +108,7 @@ static bool is_reply(cwmorlais_reply r, uint32_t code, uint32_t value, uint32_t 
 
 /* ---- 01's whole case */
 
-static const uint32_t keepers[32] = {1, 0};
+static const cwmorlais_plan whole_plan = {.desks = 3, .cells = 2, .keepers = {1, 0}};
 
 /* kind, desk, cell, word, and then the line that it writes: code, value, count */
 static const uint32_t whole_case[13][7] = {
@@ -120,8 +127,8 @@ static const uint32_t whole_case[13][7] = {
     {BRING, 0, 0, 0, 0, 27, 0},
 };
 
-static cwmorlais_record started(uint32_t desks, uint32_t cells, uint32_t desk) {
-    cwmorlais_started s = cwmorlais_desk_start(desks, cells, keepers, desk);
+static cwmorlais_record started(cwmorlais_plan plan, uint32_t desk) {
+    cwmorlais_started s = cwmorlais_desk_start(plan, desk);
     EXPECT(s.code == 0);
     return s.record;
 }
@@ -136,7 +143,7 @@ static cwmorlais_message received(const uint8_t *bytes) {
 static cwmorlais_answer by_desks(cwmorlais_record *desk, frame *under_way, cwmorlais_event e) {
     uint8_t *bytes = under_way[e.desk];
     cwmorlais_message m = e.kind == TAKE || e.kind == BRING ? received(bytes) : no_message;
-    cwmorlais_answer a = e.kind == TAKE ? cwmorlais_desk_serve(&desk[keepers[m.cell]], m)
+    cwmorlais_answer a = e.kind == TAKE ? cwmorlais_desk_serve(&desk[whole_plan.keepers[m.cell]], m)
         : e.kind == BRING ? cwmorlais_desk_bring(&desk[e.desk], m)
         : cwmorlais_desk_event(&desk[e.desk], e);
     if (a.reply.code == 1 || e.kind == TAKE) {
@@ -151,19 +158,19 @@ static cwmorlais_answer by_desks(cwmorlais_record *desk, frame *under_way, cwmor
 static void hold_equal(const cwmorlais_table *t, const cwmorlais_record *desk, frame *under_way) {
     for (uint8_t d = 0; d < 3; d++) {
         cwmorlais_record row = row_of(t, d);
-        if (row.slot.kind > 2) {
+        if (row.seat.slot.kind > 2) {
             cwmorlais_message m = received(under_way[d]);
             cwmorlais_slot answered = {.kind = m.kind, .cell = m.cell, .word = m.word, .clock = m.clock};
-            EXPECT(same_slot(&row.slot, &answered));
-            row.slot = desk[d].slot;
+            EXPECT(same_slot(&row.seat.slot, &answered));
+            row.seat.slot = desk[d].seat.slot;
         }
         EXPECT(same_record(&row, &desk[d]));
     }
 }
 
 static void play_whole_case(void) {
-    cwmorlais_record desk[3] = {started(3, 2, 0), started(3, 2, 1), started(3, 2, 2)};
-    cwmorlais_set_up s = cwmorlais_table_set_up(3, 2, keepers);
+    cwmorlais_record desk[3] = {started(whole_plan, 0), started(whole_plan, 1), started(whole_plan, 2)};
+    cwmorlais_set_up s = cwmorlais_table_set_up(whole_plan);
     frame under_way[3];
     EXPECT(s.code == 0);
     hold_equal(&s.table, desk, under_way);
@@ -174,29 +181,28 @@ static void play_whole_case(void) {
         EXPECT(is_reply(cwmorlais_table_event(&s.table, e), line[4], line[5], line[6]));
         hold_equal(&s.table, desk, under_way);
     }
-    EXPECT(desk[0].clock.n[2] == 2 && desk[1].clock.n[2] == 1 && desk[2].clock.n[2] == 2);
+    EXPECT(desk[0].seat.clock.n[2] == 2 && desk[1].seat.clock.n[2] == 1 && desk[2].seat.clock.n[2] == 2);
     EXPECT(desk[0].row[0].held && desk[0].row[0].word == 27 && desk[0].row[1].word == 500);
 }
 
 /* ---- Refusals */
 
-static void refuse_start(uint32_t code, uint32_t desks, uint32_t cells, const uint32_t *wanted, uint32_t desk) {
-    cwmorlais_started s = cwmorlais_desk_start(desks, cells, wanted, desk);
+static void refuse_start(uint32_t code, cwmorlais_plan plan, uint32_t desk) {
+    cwmorlais_started s = cwmorlais_desk_start(plan, desk);
     EXPECT(s.code == code && same_record(&s.record, &no_record));
     if (code == 10) return; /* set-up has no desk's number */
-    cwmorlais_set_up u = cwmorlais_table_set_up(desks, cells, wanted);
+    cwmorlais_set_up u = cwmorlais_table_set_up(plan);
     EXPECT(u.code == code && same_table(&u.table, &no_table));
 }
 
 static void refuse_starts(void) {
-    const uint32_t no_desk[32] = {0, 3};
-    refuse_start(20, 0, 2, keepers, 0);
-    refuse_start(20, 9, 33, no_desk, 9);
-    refuse_start(21, 3, 0, keepers, 0);
-    refuse_start(21, 3, 33, no_desk, 3);
-    refuse_start(22, 3, 2, no_desk, 3);
-    refuse_start(10, 3, 2, keepers, 3);
-    refuse_start(10, 3, 1, no_desk, 3); /* a keeper past the cell count is ignored */
+    refuse_start(20, (cwmorlais_plan){.desks = 0, .cells = 2, .keepers = {1, 0}}, 0);
+    refuse_start(20, (cwmorlais_plan){.desks = 9, .cells = 33, .keepers = {0, 3}}, 9);
+    refuse_start(21, (cwmorlais_plan){.desks = 3, .cells = 0, .keepers = {1, 0}}, 0);
+    refuse_start(21, (cwmorlais_plan){.desks = 3, .cells = 33, .keepers = {0, 3}}, 3);
+    refuse_start(22, (cwmorlais_plan){.desks = 3, .cells = 2, .keepers = {0, 3}}, 3);
+    refuse_start(10, whole_plan, 3);
+    refuse_start(10, (cwmorlais_plan){.desks = 3, .cells = 1, .keepers = {0, 3}}, 3); /* a keeper past the cell count is ignored */
 }
 
 /* A refusal gives its number and an all-zero message, and changes nothing. */
@@ -207,8 +213,8 @@ static void refused(uint32_t code, cwmorlais_answer a, const cwmorlais_record *w
 }
 
 static void refuse_at_a_desk(void) {
-    cwmorlais_record v = started(2, 4, 0); /* it keeps cells 1 to 3 */
-    v.clock.n[0] = 4294967295;
+    cwmorlais_record v = started((cwmorlais_plan){.desks = 2, .cells = 4, .keepers = {1}}, 0); /* it keeps cells 1 to 3 */
+    v.seat.clock.n[0] = 4294967295;
     cwmorlais_record was = v;
     refused(8, cwmorlais_desk_event(&v, (cwmorlais_event){.kind = TAKE}), &was, &v);
     refused(11, cwmorlais_desk_event(&v, (cwmorlais_event){.kind = READ, .cell = 4}), &was, &v);
@@ -220,7 +226,7 @@ static void refuse_at_a_desk(void) {
     /* A read of a cell that is not held is asked for, whatever desk the event names. */
     cwmorlais_answer a = cwmorlais_desk_event(&v, (cwmorlais_event){.kind = READ, .desk = 99});
     EXPECT(is_reply(a.reply, 1, 0, 0) && same_message(a.message, (cwmorlais_message){.kind = 1, .desks = 2}));
-    EXPECT(v.slot.kind == 1 && v.slot.cell == 0 && !v.served);
+    EXPECT(v.seat.slot.kind == 1 && v.seat.slot.cell == 0 && !v.seat.served);
     was = v;
     refused(12, cwmorlais_desk_event(&v, (cwmorlais_event){.kind = READ}), &was, &v);
     refused(15, cwmorlais_desk_bring(&v, a.message), &was, &v);
@@ -259,11 +265,11 @@ static void refuse_frames(void) {
 }
 
 static void refuse_at_a_table(void) {
-    cwmorlais_set_up s = cwmorlais_table_set_up(3, 2, keepers);
+    cwmorlais_set_up s = cwmorlais_table_set_up(whole_plan);
     cwmorlais_table was = s.table;
     EXPECT(is_reply(cwmorlais_table_event(&s.table, (cwmorlais_event){.kind = TAKE}), 13, 0, 0) && same_table(&was, &s.table));
     EXPECT(is_reply(cwmorlais_table_event(&s.table, (cwmorlais_event){.kind = READ, .desk = 3}), 10, 0, 0) && same_table(&was, &s.table));
-    s.table.served[7] = true; /* no such desk: not sound */
+    s.table.seats[7].served = true; /* no such desk: not sound */
     was = s.table;
     EXPECT(is_reply(cwmorlais_table_event(&s.table, (cwmorlais_event){.kind = READ}), 9, 0, 0) && same_table(&was, &s.table));
 }
@@ -274,6 +280,6 @@ int main(void) {
     refuse_at_a_desk();
     refuse_frames();
     refuse_at_a_table();
-    printf("lent_test: %d passed, %d failed\n", passed, failed);
+    printf("cwmorlais_test: %d passed, %d failed\n", passed, failed);
     return failed != 0;
 }
