@@ -10,20 +10,22 @@ use lib.ListN.{getD, replicate}
 use Rattle.clock.specs.Clock.{isWithin, raised}
 use Rattle.desk.specs.declared.Event.{Event}
 use Rattle.desk.specs.declared.Reply.{Reply}
-use Rattle.desk.specs.Desk.{cellAt, keeps, waits, isBlank}
-use Rattle.desk.specs.Rules.{eventDone, readRule, writeRule}
-use Rattle.desk.specs.Sound.{traySound, rowSound, keeperSound, cellsSound, cellSound, slotSound, slotNames, slotCarries}
-use Rattle.desk.specs.Start.{keepersRight, freshTray, setUpRefusal}
+use Rattle.desk.specs.declared.Plan.{Plan}
+use Rattle.desk.specs.Desk.{isNoWord, isBlank, cellAt, keeps, waits, isAsked, isAnswered, isOwn}
+use Rattle.desk.specs.Rules.{seatLines, eventDone, readRule, writeRule}
+use Rattle.desk.specs.Sound.{countsSound, placeSound, traySound, cellFits, cellSound, slotSound, slotNames, slotCarries, seatSound}
+use Rattle.desk.specs.Start.{keepersRight, freshTray, setUpLines, setUpRefusal}
 use Rattle.theory_lists.specs.Each.{mapAt}
 use Rattle.theory_lists.specs.Test.{every, both}
+use Rattle.theory_refusals.specs.Refusals.{firstOf, unless}
 use Rattle.table.specs.declared.Outcome.{Outcome}
 use Rattle.table.specs.declared.Table.{Table}
 use Rattle.table.specs.Fresh.{set-up-sized}
 use Rattle.table.specs.Kept.{event-sized, event-sound}
 use Rattle.table.specs.Rows.{Sized}
-use Rattle.table.specs.Rules.{isOwn, isAsked, isAnswered, refusal, outcome, ownRule, done, unless, eventRule}
-use Rattle.table.specs.SetUp.{freshTable, answerSetUp, setUpRule}
-use Rattle.table.specs.Sound.{cellZero, slotZero, rowZero, deskSound, tableSound}
+use Rattle.table.specs.Rules.{lines, refusal, outcome, ownRule, done, eventRule}
+use Rattle.table.specs.SetUp.{freshTable, setUpRule}
+use Rattle.table.specs.Sound.{entrySound, cellsSound, seatsSound, tableSound}
 use Rattle.table.specs.Table.{recordOf, putBack}
 
 -- any two results that meet a promise of the form "the result is the definition's" are equal
@@ -75,8 +77,11 @@ run-sound t (e ∷ es) z ok =
 
 -- ---- four engines that do not meet it
 -- one desk, one cell, as set up, and an event of that desk and cell
+abbrev onePlan : Plan
+onePlan = record { desks = 1; cells = 1; keepers = replicate 32 0 }
+
 abbrev pub small : Table
-small = setUpRule 1 1 (replicate 32 0) .table
+small = setUpRule onePlan .table
 
 abbrev pub event : ℕ → ℕ → Event
 event kind word = record { kind = kind; desk = 0; cell = 0; word = word }
@@ -102,13 +107,13 @@ record Small : Type 0 where
   goes-on : secondCode (replies (run eventRule small readThenWrite)) ≡ 0
 
 small-is : Small
-unfolding setUpRule answerSetUp setUpRefusal keepersRight freshTable freshTray run replies recordOf putBack every mapAt isWithin raised
-    eventRule unless refusal isOwn isAsked isAnswered done ownRule outcome eventDone readRule writeRule isBlank keeps waits
-    tableSound deskSound rowSound rowZero traySound keeperSound cellsSound cellSound slotSound slotNames slotCarries cellZero slotZero
+unfolding setUpRule setUpRefusal setUpLines keepersRight freshTable freshTray run replies recordOf putBack every mapAt isWithin raised firstOf unless
+    eventRule refusal lines seatLines isOwn isAsked isAnswered done ownRule outcome eventDone readRule writeRule isNoWord isBlank keeps waits
+    tableSound cellsSound seatsSound entrySound traySound countsSound placeSound cellFits cellSound seatSound slotSound slotNames slotCarries
 small-is = record { blank = refl; reads = refl; takes = refl; writes = refl; goes-on = refl }
 
 small-sized : Sized small
-small-sized = set-up-sized 1 1 (replicate 32 0) refl
+small-sized = set-up-sized onePlan refl
 
 -- one that refuses all events
 pub refuses-all : (E : Engine) → ((t : Table) (e : Event) → 2 < code (E t e)) → Meets E → ⊥

@@ -1,149 +1,107 @@
--- A fresh table is sound, whatever set-up it was given that is not refused; and its rows are the records that the desks would start with.
+-- A fresh table is sound, whatever plan it was set up from that is not refused; and its rows are the records that the desks would start with.
 -- Assumes nothing.
 use mathlib.Core.Path.{_≡_, refl, sym, _∙_}
-use mathlib.Core.Bool.{true, false}
-use mathlib.Core.List.{List}
-use Prim.Native.Nat.{ℕ, zero, suc, _+_, _*_, _/_, _%_, _≤_, _<_}
+use mathlib.Core.Bool.{true}
+use mathlib.Core.List.{List, [], _∷_}
+use Prim.Native.Nat.{ℕ, _+_, _*_, _/_, _%_, _<_}
 use native.Mathlib.Omega.{arith}
-use borrow.Author.Tests.{eqb-true, lt-leb}
-use lib.ListN.{length, getD, replicate, length-replicate, getD-replicate}
-use lib.Seq.{length-slice, ext-getD}
-use Rattle.clock.specs.Clock.{zeroClock}
-use Rattle.clock.specs.Laws.{zero-past}
+use borrow.Author.Tests.{lt-leb}
+use lib.Dec.{leb}
+use lib.ListN.{length, replicate, length-replicate, getD-replicate}
+use lib.Seq.{ext-getD}
+use Rattle.desk.specs.declared.Plan.{Plan}
 use Rattle.desk.specs.declared.Tray.{Tray}
-use Rattle.desk.specs.Desk.{noCell, noSlot, pastEnd, cellAt, keeps}
-use Rattle.desk.specs.SoundLaws.{TrayRule, keeps-in}
-use Rattle.desk.specs.Start.{storedKeeper, freshTray, setUpRefusal, keptAlone, freshRecord, firstOf, startRefusal, answerStart, startRule}
+use Rattle.desk.specs.Desk.{noCell, noPlace, noSeat, pastCell, pastSeat, cellAt}
+use Rattle.desk.specs.SoundLaws.{TrayRule, keeps-in, is-keeper, keeper-desk}
+use Rattle.desk.specs.Start.{plannedPlace, freshTray, noTray, setUpLines, setUpRefusal, keptAlone, freshRecord, startLines, startRefusal, notStarted, startRule}
 use Rattle.desk.specs.StartLaws.{settled, fresh-tray, fresh-length, fresh-cell, fresh-row}
 use Rattle.theory_lists.specs.Each.{mapAt, length-mapAt, getD-mapAt}
-use Rattle.theory_lists.specs.Part.{getD-slice}
-use Rattle.theory_lists.specs.Test.{fails, both-left, both-right}
+use Rattle.theory_refusals.specs.Refusals.{Line, firstOf, unless, numbersFrom, first-more, unless-done, unless-either}
+use Rattle.table.specs.declared.SetUp.{SetUp}
 use Rattle.table.specs.declared.Table.{Table}
-use Rattle.table.specs.Rows.{Sized}
-use Rattle.table.specs.SetUp.{freshCell, freshTable, noTable, answerSetUp, setUpRule}
+use Rattle.table.specs.Rows.{Sized, row-length}
+use Rattle.table.specs.SetUp.{freshCell, freshTable, noTable, notSetUp, setUpRule}
 use Rattle.table.specs.Sound.{tableSound}
-use Rattle.table.specs.SoundLaws.{RowNone, TableRule, rule-table, keeper-desk}
-use Rattle.table.specs.Table.{pastClock, pastSlot, recordOf}
+use Rattle.table.specs.SoundLaws.{TableRule, rule-table, entry-is}
+use Rattle.table.specs.Table.{recordOf}
 
-tray-sized : (t : Tray) → length (t .keepers) ≡ 32 → Sized (freshTable t)
+tray-sized : (t : Tray) → length (t .places) ≡ 32 → Sized (freshTable t)
 unfolding freshTable
 tray-sized t long =
     record {
-      all-keepers = long;
-      all-clocks = refl;
-      all-slots = refl;
-      all-served = refl;
       all-cells = length-mapAt (λ i _. freshCell t i) (replicate 256 noCell) ∙ length-replicate 256 noCell;
+      all-places = long;
+      all-seats = refl;
     }
 
 -- ---- a desk's row of a fresh table is the record that the desk would start with
-module _ (t : Tray) where
+module _ (t : Tray) (long : length (t .places) ≡ 32) where
   entry : (p c : ℕ) → p < 8 → c < 32 → cellAt (recordOf (freshTable t) p .row) c ≡ keptAlone t p c
-  unfolding freshTable recordOf
+  unfolding freshTable
   entry p c h i =
       let desk : (p * 32 + c) / 32 ≡ p = omega arith in
       let cell : (p * 32 + c) % 32 ≡ c = omega arith in
-      getD-slice (p * 32) (p * 32 + 32) (mapAt (λ i _. freshCell t i) (replicate 256 noCell)) c pastEnd (omega arith)
-      ∙ getD-mapAt (λ i _. freshCell t i) (replicate 256 noCell) (p * 32 + c) pastEnd pastEnd (omega (arith, length-replicate 256 noCell))
+      entry-is (freshTable t) p c i
+      ∙ getD-mapAt (λ i _. freshCell t i) (replicate 256 noCell) (p * 32 + c) pastCell pastCell (omega (arith, length-replicate 256 noCell))
       ∙ rw (desk, cell)
-
-  entries : (p : ℕ) → p < 8 → length (recordOf (freshTable t) p .row) ≡ 32
-  unfolding freshTable recordOf
-  entries p h =
-      length-slice (p * 32) (p * 32 + 32) (mapAt (λ i _. freshCell t i) (replicate 256 noCell))
-      (omega (arith, length-mapAt (λ i _. freshCell t i) (replicate 256 noCell), length-replicate 256 noCell))
-      ∙ omega arith
 
   row : (p : ℕ) → p < 8 → recordOf (freshTable t) p .row ≡ freshRecord t p .row
   row p h =
-      ext-getD pastEnd (recordOf (freshTable t) p .row) (freshRecord t p .row) (entries p h ∙ sym (fresh-length t p))
-      (λ c i. let j : c < 32 = omega (arith, entries p h) in entry p c h j ∙ sym (fresh-cell t p c j))
+      let entries = row-length (freshTable t) p (tray-sized t long) h in
+      ext-getD pastCell (recordOf (freshTable t) p .row) (freshRecord t p .row) (entries ∙ sym (fresh-length t p))
+      (λ c i. let j : c < 32 = omega (arith, entries) in entry p c h j ∙ sym (fresh-cell t p c j))
 
   fresh-record : (p : ℕ) → p < 8 → recordOf (freshTable t) p ≡ freshRecord t p
   unfolding freshTable recordOf freshRecord
-  fresh-record p h =
-      λ i.
-      record {
-        tray = t;
-        desk = p;
-        clock = getD-replicate 8 p zeroClock pastClock h i;
-        row = row p h i;
-        slot = getD-replicate 8 p noSlot pastSlot h i;
-        served = getD-replicate 8 p false false h i;
-      }
+  fresh-record p h = λ i. record { tray = t; desk = p; seat = getD-replicate 8 p noSeat pastSeat h i; row = row p h i }
 
--- ---- on any tray that is sound
-module _ (t : Tray) (r : TrayRule t) (long : length (t .keepers) ≡ 32) where
-  -- who keeps a cell is a desk
-  not-kept : (p c : ℕ) → t .desks ≤ p → keeps t p c ≡ false
-  unfolding keeps
-  not-kept p c h =
-      fails (keeps t p c)
-      (λ q.
-      let keeper : getD (t .keepers) c 0 ≡ p = eqb-true (getD (t .keepers) c 0) p (search (both-left, both-right)) in
-      omega (arith, keeper-desk t c r long (keeps-in t p c q)))
-
-  absent : (p : ℕ) → t .desks ≤ p → RowNone (freshRecord t p)
-  unfolding freshRecord
-  absent p h =
-      record {
-        clock-none = zero-past 0;
-        cell-none =
-            λ c j.
-            rw (fresh-cell t p c (omega (arith, fresh-length t p)))
-            (record { not-held = not-kept p c h; no-word = refl; no-stamp = zero-past 0 });
-        slot-none = record { no-kind = refl; no-cell = refl; no-word = refl; no-clock = zero-past 0 };
-        not-served = refl;
-      }
-
-  tray-fresh : TableRule (freshTable t)
+  -- on a tray that is sound, who keeps a cell is a desk
+  tray-fresh : TrayRule t → TableRule (freshTable t)
   unfolding freshTable
-  tray-fresh =
+  tray-fresh r =
       record {
         sized = tray-sized t long;
         tray-is = r;
-        row-is = λ p h. rw (fresh-record t p (omega (arith, r .desks-most))) (fresh-row t p h);
-        row-none = λ p h i. rw (fresh-record t p i) (absent p h);
+        row-is =
+            λ p h.
+            rw (fresh-record p h)
+            (fresh-row t p (λ c q. rw (← is-keeper t p c q) (keeper-desk t c r long (keeps-in t p c q))));
       }
 
--- ---- on the tray of any set-up that is not refused
-module _ (desks cells : ℕ) (keepers : List ℕ) (long : length keepers ≡ 32) where
-  stored : length (freshTray desks cells keepers .keepers) ≡ 32
+-- ---- on the tray of any plan that is not refused
+module _ (p : Plan) (long : length (p .keepers) ≡ 32) where
+  places : length (freshTray p .places) ≡ 32
   unfolding freshTray
-  stored = length-mapAt (storedKeeper cells) keepers ∙ long
+  places = length-mapAt (plannedPlace (p .cells)) (p .keepers) ∙ long
 
-  pub fresh-sized : Sized (freshTable (freshTray desks cells keepers))
-  fresh-sized = tray-sized (freshTray desks cells keepers) stored
+  pub fresh-sized : Sized (freshTable (freshTray p))
+  fresh-sized = tray-sized (freshTray p) places
 
-  pub fresh-sound : setUpRefusal desks cells keepers ≡ 0 → tableSound (freshTable (freshTray desks cells keepers)) ≡ true
-  fresh-sound none =
-      let t = freshTray desks cells keepers in
-      rule-table (freshTable t) (tray-fresh t (fresh-tray desks cells keepers none) stored)
+  pub fresh-sound : setUpRefusal p ≡ 0 → tableSound (freshTable (freshTray p)) ≡ true
+  fresh-sound none = rule-table (freshTable (freshTray p)) (tray-fresh (freshTray p) places (fresh-tray p none))
 
   -- what set-up gives: lengths always, and soundness with code 0
-  pub set-up-sized : Sized (setUpRule desks cells keepers .table)
-  unfolding setUpRule answerSetUp noTable
-  set-up-sized = go (setUpRefusal desks cells keepers)
-    where
-      go : (n : ℕ) → Sized (answerSetUp n (freshTable (freshTray desks cells keepers)) .table)
-      go zero = fresh-sized
-      go (suc n) =
-          record { all-keepers = refl; all-clocks = refl; all-slots = refl; all-served = refl; all-cells = length-replicate 256 noCell }
+  pub set-up-sized : Sized (setUpRule p .table)
+  unfolding setUpRule noTable noTray
+  set-up-sized =
+      unless-either (setUpRefusal p) notSetUp (record { code = 0; table = freshTable (freshTray p) }) (λ (s : SetUp). Sized (s .table))
+      (λ _. record { all-cells = length-replicate 256 noCell; all-places = length-replicate 32 noPlace; all-seats = refl })
+      (λ _. fresh-sized)
 
-  pub set-up-sound : setUpRule desks cells keepers .code ≡ 0 → tableSound (setUpRule desks cells keepers .table) ≡ true
-  unfolding setUpRule answerSetUp
-  set-up-sound = go (setUpRefusal desks cells keepers) refl
-    where
-      fresh : Table
-      fresh = freshTable (freshTray desks cells keepers)
-
-      go : (n : ℕ) → setUpRefusal desks cells keepers ≡ n → answerSetUp n fresh .code ≡ 0 → tableSound (answerSetUp n fresh .table) ≡ true
-      go zero none _ = fresh-sound none
-      go (suc n) _ ok = absurd (omega arith)
+  pub set-up-sound : setUpRule p .code ≡ 0 → tableSound (setUpRule p .table) ≡ true
+  unfolding setUpRule
+  set-up-sound =
+      unless-either (setUpRefusal p) notSetUp (record { code = 0; table = freshTable (freshTray p) })
+      (λ (s : SetUp). s .code ≡ 0 → tableSound (s .table) ≡ true)
+      (λ some ok. absurd (some ok))
+      (λ none _. fresh-sound none)
 
   -- a desk that starts has its row of the fresh table
-  pub started : (d : ℕ) → setUpRefusal desks cells keepers ≡ 0 → d < desks
-      → startRule desks cells keepers d ≡ record { code = 0; «record» = recordOf (freshTable (freshTray desks cells keepers)) d }
-  unfolding startRule startRefusal firstOf answerStart
+  pub started : (d : ℕ) → setUpRefusal p ≡ 0 → d < p .desks
+      → startRule p d ≡ record { code = 0; «record» = recordOf (freshTable (freshTray p)) d }
+  unfolding startRule startRefusal startLines setUpRefusal setUpLines numbersFrom firstOf
   started d none h =
-      rw (none, lt-leb desks d h, fresh-record (freshTray desks cells keepers) d (omega (arith, settled desks cells keepers none .desks-most)))
+      let last : List Line = (10, leb (p .desks) d) ∷ [] in
+      rw (fresh-record (freshTray p) places d (omega (arith, settled p none .desks-most)))
+      (unless-done (startRefusal p d) notStarted (record { code = 0; «record» = freshRecord (freshTray p) d })
+      (first-more (setUpLines p) last refl none ∙ rw (lt-leb (p .desks) d h)))

@@ -2,7 +2,7 @@
 -- Assumes nothing.
 use mathlib.Core.Path.{_≡_}
 use mathlib.Core.Bool.{true}
-use mathlib.Core.Logic.{_⊎_, ⊎-elim}
+use mathlib.Core.Logic.{⊎-elim}
 use Prim.Native.Nat.{ℕ, _≤_, _<_}
 use native.Mathlib.Decide.{ℕ-discrete}
 use native.Mathlib.Omega.{arith}
@@ -14,71 +14,59 @@ use Rattle.desk.specs.declared.Message.{Message}
 use Rattle.desk.specs.declared.Record.{Record}
 use Rattle.desk.specs.declared.Slot.{Slot}
 use Rattle.desk.specs.declared.Step.{Step}
-use Rattle.desk.specs.Desk.{waits}
-use Rattle.desk.specs.Kept.{event-kept, takes-row, brings-row, slot-row, full-rule}
-use Rattle.desk.specs.RuleLaws.{allowed}
-use Rattle.desk.specs.Rules.{eventDone, takes, readServed, writeServed, serveDone, bringDone}
-use Rattle.desk.specs.SameDesk.{SameDesk, Answers, serve-answers, event-same, serve-same, bring-same}
+use Rattle.desk.specs.Desk.{waits, isOwn}
+use Rattle.desk.specs.Kept.{event-kept, clock-past, takes-row, brings-row, seat-row, slot-seat, full-rule}
+use Rattle.desk.specs.RuleLaws.{allowed, asked-kind}
+use Rattle.desk.specs.Rules.{withSlot, eventDone, takes, readServed, writeServed, serveDone, bringDone}
+use Rattle.desk.specs.SameDesk.{SameDesk, seat-same, Answers, serve-answers, takes-same, event-same, serve-same, bring-same}
 use Rattle.desk.specs.SoundLaws.{SlotRule, RowRule}
 use Rattle.theory_lists.specs.Test.{whichever}
 use Rattle.table.specs.declared.Outcome.{Outcome}
 use Rattle.table.specs.declared.Table.{Table}
-use Rattle.table.specs.Rows.{Sized, row-length, put-sized, put-same, put-other, slot-sized, slot-same, slot-other}
-use Rattle.table.specs.RuleLaws.{keeperFor, asked-kind, kind-waits, Passed, each-event, Asks, here, take-asks, bring-asks, slot-past, own-sound, own-passes}
-use Rattle.table.specs.Rules.{isOwn, outcome, messageOf, answerSlot, served, takeRule, bringRule, ownRule, eventRule}
+use Rattle.table.specs.Rows.{Sized, row-length, put-sized, put-same, put-other}
+use Rattle.table.specs.RuleLaws.{kind-waits, Passed, each-event, Asks, here, take-asks, bring-asks, slot-past, own-sound, own-passes}
+use Rattle.table.specs.Rules.{outcome, messageOf, answerSlot, answered, putAnswer, keeperStep, takeRule, bringRule, ownRule, eventRule}
 use Rattle.table.specs.Sound.{tableSound}
 use Rattle.table.specs.SoundLaws.{TableRule, table-rule, rule-table, desk-below}
-use Rattle.table.specs.Table.{slotOf, recordOf, putBack, withSlotOf}
+use Rattle.table.specs.Table.{slotOf, keeperFor, recordOf, putBack}
 
 -- what a desk's step leaves goes back into its place
-put-kept : (t : Table) (desk : ℕ) (u : Record) → TableRule t → desk < t .tray .desks → SameDesk (recordOf t desk) u → RowRule u
-    → TableRule (putBack t u)
+put-kept : (t : Table) (desk : ℕ) (u : Record) → TableRule t → desk < 8 → SameDesk (recordOf t desk) u → RowRule u → TableRule (putBack t u)
 unfolding putBack
 put-kept t desk u r h same row =
     record {
-      sized = put-sized t desk u (r .sized) below same;
+      sized = put-sized t desk u (r .sized) h same;
       tray-is = r .tray-is;
       row-is =
           λ p i.
           elim (ℕ-discrete p desk) [
-            | yes q ↦ rw (q, put-same t desk u (r .sized) below same) row
-            | no q ↦ rw (put-other t desk u (r .sized) below same p (desk-below t r p i) q) (r .row-is p i)
+            | yes q ↦ rw (q, put-same t desk u (r .sized) h same) row
+            | no q ↦ rw (put-other t desk u (r .sized) h same p q) (r .row-is p i)
           ];
-      row-none = λ p i j. rw (put-other t desk u (r .sized) below same p j (λ q. omega arith)) (r .row-none p i j);
     }
-  where
-    below : desk < 8
-    below = desk-below t r desk h
 
 -- a desk's slot is filled
-slot-kept : (t : Table) (desk : ℕ) (s : Slot) → TableRule t → desk < t .tray .desks → SlotRule (t .tray) desk s → waits s ≡ true
-    → TableRule (withSlotOf t desk s)
-unfolding withSlotOf recordOf
-slot-kept t desk s r h new w =
-    record {
-      sized = slot-sized t desk s (r .sized);
-      tray-is = r .tray-is;
-      row-is =
-          λ p i.
-          elim (ℕ-discrete p desk) [
-            | yes q ↦ rw (q, slot-same t desk s (r .sized) (desk-below t r desk h))
-                (slot-row (recordOf t desk) s (recordOf t desk .served) (r .row-is desk h) new (λ _. w))
-            | no q ↦ rw (slot-other t desk s (r .sized) p q) (r .row-is p i)
-          ];
-      row-none = λ p i j. rw (slot-other t desk s (r .sized) p (λ q. omega arith)) (r .row-none p i j);
-    }
+answer-kept : (t : Table) (desk : ℕ) (m : Message) → TableRule t → desk < 8 → SlotRule (t .tray) desk (answerSlot m) → waits (answerSlot m) ≡ true
+    → TableRule (putAnswer t desk m)
+unfolding putAnswer recordOf
+answer-kept t desk m r h new w =
+    let v = recordOf t desk in
+    let s = withSlot (v .seat) (answerSlot m) (v .seat .served) in
+    put-kept t desk (answered v (answerSlot m)) r h (seat-same v s)
+    (seat-row v s (r .row-is desk h) (slot-seat (t .tray) desk (v .seat) (answerSlot m) (v .seat .served) (r .row-is desk h .seat-is) new (λ _. w)))
 
 -- a keeper that serves: its row, and the stamp that it answers with
-module _ (v : Record) (m : Message) (r : RowRule v) (c : m .cell < v .tray .cells) (p : ZeroPast (v .tray .desks) (m .clock)) where
+module _ (v : Record) (m : Message) (there : v .desk < v .tray .counts .desks) (r : RowRule v) (c : m .cell < v .tray .counts .cells)
+    (p : ZeroPast (v .tray .counts .desks) (m .clock)) where
   serve-row : RowRule (serveDone v m .after)
   unfolding serveDone readServed writeServed
-  serve-row = whichever (λ (s : Step). RowRule (s .after)) (eqb (m .kind) 1) (readServed v m) (writeServed v m) r (takes-row v m r c p)
+  serve-row = whichever (λ (s : Step). RowRule (s .after)) (eqb (m .kind) 1) (readServed v m) (writeServed v m) r (takes-row v m there r c p)
 
-  serve-past : m .cell < length (v .row) → ZeroPast (v .tray .desks) (serveDone v m .message .clock)
+  serve-past : m .cell < length (v .row) → ZeroPast (v .tray .counts .desks) (serveDone v m .message .clock)
   unfolding serveDone readServed writeServed takes
   serve-past h =
-      whichever (λ (s : Step). ZeroPast (v .tray .desks) (s .message .clock)) (eqb (m .kind) 1) (readServed v m) (writeServed v m)
-      (r .cell-is (m .cell) h .stamp-past) (takes-row v m r c p .clock-past)
+      whichever (λ (s : Step). ZeroPast (v .tray .counts .desks) (s .message .clock)) (eqb (m .kind) 1) (readServed v m) (writeServed v m)
+      (r .cell-is (m .cell) h .stamp-past) (clock-past (takes v m) there (takes-row v m there r c p))
 
 -- ---- the three ways to do an event
 module _ (t : Table) (e : Event) (a : Passed t e) where
@@ -86,7 +74,7 @@ module _ (t : Table) (e : Event) (a : Passed t e) where
   unfolding ownRule outcome
   own-kept o =
       let v = recordOf t (e .desk) in
-      put-kept t (e .desk) (eventDone v e .after) (a .sound) (a .desk-is) (event-same v e)
+      put-kept t (e .desk) (eventDone v e .after) (a .sound) (here t e a) (event-same v e)
       (event-kept v (row-length t (e .desk) (a .sound .sized) (here t e a)) (own-sound t e a o) e
       (allowed v e (own-passes t e a o)) .row-is)
 
@@ -96,13 +84,13 @@ module _ (t : Table) (e : Event) (a : Passed t e) where
       let v = recordOf t (e .desk) in
       let m = messageOf t (e .desk) in
       let asking = bring-asks t e a k in
-      put-kept t (e .desk) (bringDone v m .after) (a .sound) (a .desk-is) (bring-same v m)
-      (brings-row v m (a .sound .row-is (e .desk) (a .desk-is)) (asking .cell-is) (asking .not-kept) (slot-past t e a))
+      put-kept t (e .desk) (bringDone v m .after) (a .sound) (here t e a) (bring-same v m)
+      (brings-row v m (a .desk-is) (a .sound .row-is (e .desk) (here t e a)) (asking .cell-is) (slot-past t e a) (asking .not-kept))
 
   take-kept : e .kind ≡ 3 → TableRule (takeRule t (e .desk) .after)
-  unfolding takeRule served messageOf recordOf putBack
+  unfolding takeRule keeperStep messageOf recordOf putBack
   take-kept k =
-      slot-kept (putBack t (served t (e .desk) .after)) (e .desk) s keeper-kept (a .desk-is) slot-is
+      answer-kept (putBack t (serveDone keeper m .after)) (e .desk) (serveDone keeper m .message) keeper-kept (here t e a) slot-is
       (kind-waits s (omega (arith, names .answer-kind)))
     where
       keeper : Record
@@ -120,33 +108,30 @@ module _ (t : Table) (e : Event) (a : Passed t e) where
       names : Answers keeper m (serveDone keeper m)
       names = serve-answers keeper m
 
+      below : keeperFor t (e .desk) < 8
+      below = desk-below t (a .sound) (keeperFor t (e .desk)) (asking .keeper-is)
+
       row : RowRule keeper
-      row = a .sound .row-is (keeperFor t (e .desk)) (asking .keeper-is)
+      row = a .sound .row-is (keeperFor t (e .desk)) below
 
       keeper-kept : TableRule (putBack t (serveDone keeper m .after))
       keeper-kept =
-          put-kept t (keeperFor t (e .desk)) (serveDone keeper m .after) (a .sound) (asking .keeper-is) (serve-same keeper m)
-          (serve-row keeper m row (asking .cell-is) (slot-past t e a))
+          put-kept t (keeperFor t (e .desk)) (serveDone keeper m .after) (a .sound) below (serve-same keeper m)
+          (serve-row keeper m (asking .keeper-is) row (asking .cell-is) (slot-past t e a))
 
       most : s .kind ≤ 4
       most =
           ⊎-elim (λ q. omega (arith, names .answer-kind)) (λ q. omega (arith, names .answer-kind))
-          (asked-kind (slotOf t (e .desk)) (a .asked k))
+          (asked-kind (slotOf t (e .desk)) (a .seat .asked k))
 
       there : m .cell < length (keeper .row)
-      there =
-          omega (
-            arith,
-            asking .cell-is,
-            a .sound .tray-is .cells-most,
-            row-length t (keeperFor t (e .desk)) (a .sound .sized) (desk-below t (a .sound) (keeperFor t (e .desk)) (asking .keeper-is)),
-          )
+      there = omega (arith, asking .cell-is, a .sound .tray-is .cells-most, row-length t (keeperFor t (e .desk)) (a .sound .sized) below)
 
       slot-is : SlotRule (t .tray) (e .desk) s
       slot-is =
           full-rule (t .tray) (e .desk) s (omega (arith, names .answer-kind)) most
-          (rw (names .answer-cell) (asking .cell-is)) (rw (names .answer-cell) (asking .not-kept))
-          (serve-past keeper m row (asking .cell-is) (slot-past t e a) there)
+          (a .desk-is, rw (names .answer-cell) (asking .cell-is)) (rw (names .answer-cell) (asking .not-kept))
+          (serve-past keeper m (asking .keeper-is) row (asking .cell-is) (slot-past t e a) there)
 
 -- ---- the theorems
 module _ (t : Table) (e : Event) (z : Sized t) where

@@ -2,12 +2,9 @@ pub mod Choice
 pub mod Equal
 pub mod Fresh
 pub mod Kept
-pub mod Parts
-pub mod Places
 pub mod Rows
 pub mod RuleLaws
 pub mod Rules
-pub mod Scan
 pub mod SetUp
 pub mod Sound
 pub mod SoundLaws

@@ -1,31 +1,25 @@
--- When a table is sound, as a test: the tray is, every desk's row is, and what belongs to an absent desk is all zero.
+-- When a table is sound, as a test: the tray is, and each desk's cells and seat are, present or absent.
 -- Assumes nothing.
-use mathlib.Core.Bool.{Bool, not, _&&_, cond}
+use mathlib.Core.Bool.{Bool, _&&_}
 use mathlib.Core.List.{List}
-use Prim.Native.Nat.{ℕ}
-use lib.Dec.{ltb, eqb}
-use Rattle.clock.specs.Clock.{isWithin}
+use Prim.Native.Nat.{ℕ, _/_, _%_}
 use Rattle.desk.specs.declared.Cell.{Cell}
-use Rattle.desk.specs.declared.Record.{Record}
-use Rattle.desk.specs.declared.Slot.{Slot}
-use Rattle.desk.specs.Sound.{traySound, rowSound}
+use Rattle.desk.specs.declared.Seat.{Seat}
+use Rattle.desk.specs.declared.Tray.{Tray}
+use Rattle.desk.specs.Sound.{traySound, cellSound, seatSound}
 use Rattle.theory_lists.specs.Each.{mapAt}
 use Rattle.theory_lists.specs.Test.{every}
 use Rattle.table.specs.declared.Table.{Table}
-use Rattle.table.specs.Table.{recordOf}
 
-unfoldable pub cellZero : Cell → Bool
-cellZero x = not (x .held) && eqb (x .word) 0 && isWithin 0 (x .stamp)
+-- entry i is cell i % 32 of desk i / 32
+unfoldable pub entrySound : Tray → ℕ → Cell → Bool
+entrySound t i x = cellSound t (i / 32) (i % 32) x
 
-unfoldable pub slotZero : Slot → Bool
-slotZero s = eqb (s .kind) 0 && eqb (s .cell) 0 && eqb (s .word) 0 && isWithin 0 (s .clock)
+unfoldable pub cellsSound : Table → Bool
+cellsSound t = every (mapAt (entrySound (t .tray)) (t .cells))
 
--- all entries of an absent desk are zero
-unfoldable pub rowZero : Record → Bool
-rowZero v = isWithin 0 (v .clock) && every (mapAt (λ _. cellZero) (v .row)) && slotZero (v .slot) && not (v .served)
-
-unfoldable pub deskSound : Table → ℕ → Bool
-deskSound t desk = cond (ltb desk (t .tray .desks)) (rowSound (recordOf t desk)) (rowZero (recordOf t desk))
+unfoldable pub seatsSound : Tray → List Seat → Bool
+seatsSound t seats = every (mapAt (seatSound t) seats)
 
 unfoldable pub tableSound : Table → Bool
-tableSound t = traySound (t .tray) && every (mapAt (λ desk _. deskSound t desk) (t .clocks))
+tableSound t = traySound (t .tray) && cellsSound t && seatsSound (t .tray) (t .seats)

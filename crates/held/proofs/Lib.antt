@@ -1,4 +1,0 @@
-pub mod Element
-pub mod Known
-pub mod Made
-pub mod Row
