@@ -1,42 +1,45 @@
 // Starting: a tray as it is set up, and a desk's fresh record on it. The table sets itself up from the same parts.
-ghost use mathlib.Core.Bool.{true, cond};
 ghost use mathlib.Core.Path.{_≡_};
 ghost use Prim.Native.Nat.{_<_, _≤_};
-ghost use Rattle.desk.specs.Start.{heldIf, freshRecord, freshTray, keepersRight, setUpRefusal, startRefusal, startRule};
+ghost use Rattle.desk.specs.Start.{plannedPlace, heldIf, freshRecord, freshTray, keepersRight, setUpRefusal, startRefusal, startRule};
 use clock::Clock;
 use desk::Cell;
+use desk::Counts;
+use desk::Place;
+use desk::Plan;
 use desk::Record;
-use desk::Slot;
-use desk::Start;
+use desk::Seat;
+use desk::Started;
 use desk::Tray;
+use desk::sound::keeps_at;
 
-// Any counts, 32 keepers and any number for the desk; keepers past the cell count are ignored.
-pub fn start(desks: u32, cells: u32, keepers: [u32; 32], desk: u32) -> Start
-    ensures { λ r. ⌜ r ≡ startRule desks cells keepers desk ⌝ }
+// A desk's record for any plan and any number.
+pub fn start(plan: Plan, desk: u32) -> Started
+    ensures { λ r. ⌜ r ≡ startRule plan desk ⌝ }
 {
-    let code = start_refusal(desks, cells, keepers, desk);
+    let code = start_refusal(plan, desk);
     if code != 0 {
-        return Start {
+        return Started {
             code,
             record: Record::NONE,
         };
     }
-    let t = tray(desks, cells, keepers);
-    Start {
+    let t = tray(plan);
+    Started {
         code: 0,
         record: fresh(t, desk as u8),
     }
 }
 
 // What setting up refuses, then a number that is no desk; 0 where nothing is wrong.
-fn start_refusal(desks: u32, cells: u32, keepers: [u32; 32], desk: u32) -> u32
-    ensures { λ r. ⌜ r ≡ startRefusal desks cells keepers desk ⌝ }
+fn start_refusal(plan: Plan, desk: u32) -> u32
+    ensures { λ r. ⌜ r ≡ startRefusal plan desk ⌝ }
 {
-    let set_up = refusal(desks, cells, keepers);
+    let set_up = refusal(plan);
     if set_up != 0 {
         return set_up;
     }
-    if desks <= desk {
+    if plan.desks <= desk {
         return 10;
     }
     0
@@ -45,23 +48,20 @@ fn start_refusal(desks: u32, cells: u32, keepers: [u32; 32], desk: u32) -> u32
 fn fresh(t: Tray, desk: u8) -> Record
     ensures { λ r. ⌜ r ≡ freshRecord t desk ⌝ }
 {
-    let cells = t.cells as usize;
+    let n = t.counts;
     let mut row = [Cell::NONE; 32];
     for c in 0..32 {
-        let kept = (c < cells) & (t.keepers[c] == desk);
-        row[c] = kept_alone(kept);
+        row[c] = kept_alone(keeps_at(n, t.places[c], desk, c));
     }
     Record {
         tray: t,
         desk,
-        clock: Clock::ZERO,
+        seat: Seat::NONE,
         row,
-        slot: Slot::NONE,
-        served: false,
     }
 }
 
-// What a desk has of a cell at first: its keeper alone holds it, blank.
+// What a desk has of a cell at first: its keeper alone holds it, blank. Without a branch, since loops call it.
 pub fn kept_alone(kept: bool) -> Cell
     ensures { λ r. ⌜ r ≡ heldIf kept ⌝ }
 {
@@ -73,56 +73,62 @@ pub fn kept_alone(kept: bool) -> Cell
 }
 
 // Whether every keeper below the cell count is a desk.
-fn keepers_right(desks: u32, cells: u32, keepers: [u32; 32]) -> bool
-    requires { ⌜ cells ≤ 32 ⌝ }
-    ensures { λ r. ⌜ r ≡ keepersRight desks cells keepers ⌝ }
+fn keepers_right(plan: Plan) -> bool
+    requires { ⌜ plan .cells ≤ 32 ⌝ }
+    ensures { λ r. ⌜ r ≡ keepersRight plan ⌝ }
 {
-    let count = cells as usize;
+    let keepers = plan.keepers;
+    let cells = plan.cells as usize;
     let mut right = true;
     for c in 0..32 {
-        right = right & (!(c < count) | (keepers[c] < desks));
+        right = right & (!(c < cells) | (keepers[c] < plan.desks));
     }
     right
 }
 
 // What setting up refuses; 0 where nothing is wrong.
-pub fn refusal(desks: u32, cells: u32, keepers: [u32; 32]) -> u32
-    ensures { λ r. ⌜ r ≡ setUpRefusal desks cells keepers ⌝ }
+pub fn refusal(plan: Plan) -> u32
+    ensures { λ r. ⌜ r ≡ setUpRefusal plan ⌝ }
 {
-    if !((1 <= desks) & (desks <= 8)) {
+    if !((1 <= plan.desks) & (plan.desks <= 8)) {
         return 20;
     }
-    if !((1 <= cells) & (cells <= 32)) {
+    if !((1 <= plan.cells) & (plan.cells <= 32)) {
         return 21;
     }
-    if !keepers_right(desks, cells, keepers) {
+    if !keepers_right(plan) {
         return 22;
     }
     0
 }
 
-fn stored_keeper(keeper: u32, used: bool) -> u8
-    requires { ⌜ (used ≡ true → keeper < 8) ⌝ }
-    ensures { λ r. ⌜ r ≡ cond used keeper 0 ⌝ }
+fn planned_place(cells: usize, c: usize, keeper: u32) -> Place
+    requires { ⌜ (c < cells → keeper < 8) ⌝ }
+    ensures { λ r. ⌜ r ≡ plannedPlace cells c keeper ⌝ }
 {
-    if used {
-        return keeper as u8;
+    if c < cells {
+        return Place {
+            keeper: keeper as u8,
+        };
     }
-    0
+    Place::NONE
 }
 
-pub fn tray(desks: u32, cells: u32, keepers: [u32; 32]) -> Tray
-    requires { ⌜ setUpRefusal desks cells keepers ≡ 0 ⌝ }
-    ensures { λ r. ⌜ r ≡ freshTray desks cells keepers ⌝ }
+pub fn tray(plan: Plan) -> Tray
+    requires { ⌜ setUpRefusal plan ≡ 0 ⌝ }
+    ensures { λ r. ⌜ r ≡ freshTray plan ⌝ }
 {
-    let count = cells as usize;
-    let mut stored = [0u8; 32];
+    let keepers = plan.keepers;
+    let cells = plan.cells as usize;
+    let mut places = [Place::NONE; 32];
     for c in 0..32 {
-        stored[c] = stored_keeper(keepers[c], c < count);
+        places[c] = planned_place(cells, c, keepers[c]);
     }
     Tray {
-        desks: desks as u8,
-        cells: cells as u8,
-        keepers: stored,
+        counts: Counts {
+            desks: plan.desks as u8,
+            cells: plan.cells as u8,
+        },
+        places,
     }
 }

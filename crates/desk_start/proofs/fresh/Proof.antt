@@ -2,34 +2,32 @@
 -- Assumes nothing.
 use borrow.Author.Needs.{needs}
 use native.Mathlib.Omega.{arith}
-use mathlib.Core.Path.{_≡_, refl, sym, ap₂, _∙_}
-use mathlib.Core.Bool.{false}
+use mathlib.Core.Path.{_≡_, refl, sym, ap, ap₂, _∙_}
 use mathlib.Core.List.{List}
 use Prim.Native.Nat.{_-_, _≤_}
 use lib.ListN.{set, replicate}
-use Rattle.clock.specs.Clock.{zeroClock}
 use Rattle.theory_lists.specs.Replaced.{upTo, upTo-step, upTo-mapAt}
 use Rattle.desk.specs.declared.Cell.{Cell}
-use Rattle.desk.specs.Desk.{noCell, noSlot, pastEnd, keeps}
-use Rattle.desk.specs.Start.{keptAlone, freshRecord}
+use Rattle.desk.specs.Desk.{noCell, noSeat, pastCell, keeps}
+use Rattle.desk.specs.Start.{heldIf, keptAlone, freshRecord}
 use Rattle.desk_start.proofs.fresh.Statement.{statement}
 use Rattle.desk_start.proofs.fresh.Tie as tie
 
 abbrev Inv-loop : tie.InvT-loop
-Inv-loop desk t cells row₀ c₀ row c = (c ≤ 32) × (row ≡ upTo (keptAlone t desk) c (replicate 32 noCell))
+Inv-loop desk t n row₀ c₀ row c = (c ≤ 32) × (row ≡ upTo (keptAlone t desk) c (replicate 32 noCell))
 
 abbrev μ-loop : tie.MeasureT-loop
-μ-loop desk t cells row₀ c₀ row c = 32 - c
-
-cast-cells : tie.Need-cast-cells Inv-loop μ-loop
-cast-cells c = search needs
+μ-loop desk t n row₀ c₀ row c = 32 - c
 
 loop-holds : tie.Need-loop-holds Inv-loop μ-loop
 unfolding upTo
 loop-holds c = (search needs, refl)
 
-element-copy-out-kept : tie.Need-element-copy-out-kept Inv-loop μ-loop
-element-copy-out-kept c = search needs
+element-copy-out-keeps-at : tie.Need-element-copy-out-keeps-at Inv-loop μ-loop
+element-copy-out-keeps-at c = search needs
+
+keeps-at-requires : tie.Need-keeps-at-requires Inv-loop μ-loop
+keeps-at-requires c κs = search needs
 
 kept-alone-requires : tie.Need-kept-alone-requires Inv-loop μ-loop
 kept-alone-requires c κs = search needs
@@ -49,22 +47,21 @@ loop-less c = search needs
 loop-again : tie.Need-loop-again Inv-loop μ-loop
 unfolding keeps
 loop-again c =
-    let at-loop = c .before .before .before in
-    let a = at-loop .before .args in
-    let k = at-loop .loop .c in (
+    let a = c .before .before .before .before .before .before .args in
+    let l = c .before .before .before .before .loop in (
       omega arith,
-      ap₂ (λ (l : List Cell) (x : Cell). set l k x) (at-loop .loop .inv .1) (c .kept-alone .ensures)
-          ∙ upTo-step (keptAlone (a .t1) (a .desk)) k (replicate 32 noCell),
+      ap₂ (λ (r : List Cell) (x : Cell). set r (l .c) x) (l .inv .1) (c .kept-alone .ensures ∙ ap heldIf (c .before .keeps-at .ensures))
+          ∙ upTo-step (keptAlone (a .t1) (a .desk)) (l .c) (replicate 32 noCell),
     )
 
 returns : tie.Need-returns Inv-loop μ-loop
 unfolding freshRecord
 returns c =
-    let at-loop = c .before in
-    let a = at-loop .before .args in
-    let end : at-loop .loop .c ≡ 32 = omega arith in
-    let all = upTo-mapAt (λ k _. keptAlone (a .t1) (a .desk) k) (at-loop .loop .c) (replicate 32 noCell) pastEnd (sym end) in
-    λ i. record { tray = a .t1; desk = a .desk; clock = zeroClock; row = (at-loop .loop .inv .1 ∙ all) i; slot = noSlot; served = false }
+    let a = c .before .before .before .args in
+    let l = c .before .loop in
+    let end : l .c ≡ 32 = omega arith in
+    let all = upTo-mapAt (λ k _. keptAlone (a .t1) (a .desk) k) (l .c) (replicate 32 noCell) pastCell (sym end) in
+    λ i. record { tray = a .t1; desk = a .desk; seat = noSeat; row = (l .inv .1 ∙ all) i }
 
 pub fresh-spec : {M : Type 1} → statement M
 fresh-spec =
@@ -72,9 +69,9 @@ fresh-spec =
     (tie.spec
     Inv-loop
     μ-loop
-    cast-cells
     loop-holds
-    element-copy-out-kept
+    element-copy-out-keeps-at
+    keeps-at-requires
     kept-alone-requires
     mul-row
     array-set-from-row

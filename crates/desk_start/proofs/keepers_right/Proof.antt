@@ -13,11 +13,15 @@ use Rattle.desk_start.proofs.keepers_right.Statement.{statement}
 use Rattle.desk_start.proofs.keepers_right.Tie as tie
 
 abbrev Inv-loop : tie.InvT-loop
-Inv-loop desks cells keepers count right₀ c₀ right c = (c ≤ 32)
-    × (every (mapAt (keeperRight desks cells) keepers) ≡ (right && every (drop c (mapAt (keeperRight desks cells) keepers))))
+Inv-loop plan keepers cells right₀ c₀ right c = (c ≤ 32)
+    × (every (mapAt (keeperRight (plan .desks) (plan .cells)) (plan .keepers))
+    ≡ (right && every (drop c (mapAt (keeperRight (plan .desks) (plan .cells)) (plan .keepers)))))
 
 abbrev μ-loop : tie.MeasureT-loop
-μ-loop desks cells keepers count right₀ c₀ right c = 32 - c
+μ-loop plan keepers cells right₀ c₀ right c = 32 - c
+
+cast-cells : tie.Need-cast-cells Inv-loop μ-loop
+cast-cells c = search needs
 
 loop-holds : tie.Need-loop-holds Inv-loop μ-loop
 loop-holds c = (search needs, refl)
@@ -36,19 +40,19 @@ loop-less c = search needs
 
 loop-again : tie.Need-loop-again Inv-loop μ-loop
 loop-again c =
-    let at-loop = c .before in
-    let a = at-loop .before .args in
-    let long : length (a .t3) ≡ 32 = search needs in
-    let turn = mapAt-turn (keeperRight (a .desks) (a .cells)) (a .t3) 0 (at-loop .loop .c) (at-loop .loop .right) in
-    (omega arith, turn (omega arith) (at-loop .loop .inv .1))
+    let p = c .before .before .before .before .before .args .plan in
+    let l = c .before .before .loop in
+    let long : length (p .keepers) ≡ 32 = search needs in
+    let turn = mapAt-turn (keeperRight (p .desks) (p .cells)) (p .keepers) 0 (l .c) (l .right) in
+    (omega arith, turn (omega arith) (l .inv .1))
 
 returns : tie.Need-returns Inv-loop μ-loop
 unfolding keepersRight
 returns c =
-    let at-loop = c .before in
-    let a = at-loop .before .args in
-    let long : length (a .t3) ≡ 32 = search needs in
-    sym (mapAt-end (keeperRight (a .desks) (a .cells)) (a .t3) 0 (at-loop .loop .c) (at-loop .loop .right) (omega arith) (at-loop .loop .inv .1))
+    let p = c .before .before .before .before .args .plan in
+    let l = c .before .loop in
+    let long : length (p .keepers) ≡ 32 = search needs in
+    sym (mapAt-end (keeperRight (p .desks) (p .cells)) (p .keepers) 0 (l .c) (l .right) (omega arith) (l .inv .1))
 
 pub keepers-right-spec : {M : Type 1} → statement M
 keepers-right-spec =
@@ -56,6 +60,7 @@ keepers-right-spec =
     (tie.spec
     Inv-loop
     μ-loop
+    cast-cells
     loop-holds
     mul-right
     array-read-right

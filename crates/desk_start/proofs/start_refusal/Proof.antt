@@ -1,36 +1,42 @@
--- `desk_start::start_refusal` meets its contract: set-up's refusal comes first, then 10.
+-- `desk_start::start_refusal` meets its contract: set-up's lines come first, then 10.
 -- Assumes nothing.
 use borrow.Author.Needs.{needs}
 use borrow.Author.Tests.{le-leb, lt-leb}
-use mathlib.Core.Path.{_≡_, refl}
-use Prim.Native.Nat.{ℕ, zero, suc}
-use Rattle.desk.specs.Start.{firstOf, startRefusal}
+use mathlib.Core.Path.{_≡_, refl, sym, _∙_}
+use mathlib.Core.Bool.{cond}
+use mathlib.Core.List.{[], _∷_}
+use Prim.Native.Nat.{ℕ}
+use lib.Dec.{leb}
+use Rattle.theory_refusals.specs.Refusals.{firstOf, numbersFrom, first-some, first-more}
+use Rattle.desk.specs.declared.Plan.{Plan}
+use Rattle.desk.specs.Start.{setUpLines, setUpRefusal, startLines, startRefusal}
 use Rattle.desk_start.proofs.start_refusal.Statement.{statement}
 use Rattle.desk_start.proofs.start_refusal.Tie as tie
 
-first : (n m : ℕ) → (n ≡ 0 → ⊥) → n ≡ firstOf n m
-unfolding firstOf
-first zero m some = absurd (some refl)
-first (suc n) m some = refl
+last-line : (p : Plan) (desk : ℕ) → setUpRefusal p ≡ 0 → startRefusal p desk ≡ cond (leb (p .desks) desk) 10 0
+unfolding startRefusal startLines setUpRefusal setUpLines firstOf numbersFrom
+last-line p desk none = first-more (setUpLines p) ((10, leb (p .desks) desk) ∷ []) refl none
 
 refusal-requires : tie.Need-refusal-requires
 refusal-requires c κs = search needs
 
 returns : tie.Need-returns
-unfolding startRefusal
-returns c = rw (← c .before .refusal .ensures) (first (c .before .refusal .result) _ (c .if1 .taken))
+unfolding startRefusal startLines setUpRefusal
+returns c =
+    let set-up = c .before .refusal .ensures in
+    set-up ∙ sym (first-some (setUpLines (c .before .before .args .plan)) _ (λ none. c .if1 .taken (set-up ∙ none)))
 
 returns-2 : tie.Need-returns-2
-unfolding startRefusal firstOf
 returns-2 c =
-    let a = c .before .before .before .args in
-    rw (← c .before .before .refusal .ensures, c .before .if1 .left, le-leb (a .desks) (a .desk) (c .if2 .taken))
+    let a = c .before .before .before .before .args in
+    let none = sym (c .before .before .before .refusal .ensures) ∙ c .before .before .if1 .left in
+    rw (last-line (a .plan) (a .desk) none, le-leb (a .plan .desks) (a .desk) (c .if2 .taken))
 
 returns-3 : tie.Need-returns-3
-unfolding startRefusal firstOf
 returns-3 c =
-    let a = c .before .before .before .args in
-    rw (← c .before .before .refusal .ensures, c .before .if1 .left, lt-leb (a .desks) (a .desk) (c .if2 .left))
+    let a = c .before .before .before .before .args in
+    let none = sym (c .before .before .before .refusal .ensures) ∙ c .before .before .if1 .left in
+    rw (last-line (a .plan) (a .desk) none, lt-leb (a .plan .desks) (a .desk) (c .if2 .left))
 
 pub start-refusal-spec : {M : Type 1} → statement M
 start-refusal-spec = tie.close (tie.spec refusal-requires returns returns-2 returns-3)

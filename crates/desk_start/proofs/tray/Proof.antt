@@ -1,4 +1,4 @@
--- `desk_start::tray` meets its contract. The loop's invariant: the places passed have the keepers as they are stored.
+-- `desk_start::tray` meets its contract. The loop's invariant: the places passed are as planned.
 -- Assumes nothing.
 use borrow.Author.Needs.{needs}
 use native.Mathlib.Omega.{arith}
@@ -6,43 +6,49 @@ use mathlib.Core.Path.{_≡_, refl, sym, ap₂, _∙_}
 use mathlib.Core.List.{List}
 use Prim.Native.Nat.{ℕ, _-_, _≤_}
 use lib.ListN.{length, getD, set, replicate}
-use borrow.Author.Tests.{ltb-true}
-use Rattle.desk.specs.StartLaws.{settled, keeper-below}
 use Rattle.theory_lists.specs.Replaced.{upTo, upTo-step, upTo-all}
 use Rattle.theory_lists.specs.Each.{mapAt, length-mapAt, getD-mapAt}
-use Rattle.desk.specs.Start.{storedKeeper, freshTray}
+use Rattle.desk.specs.declared.Place.{Place}
+use Rattle.desk.specs.declared.Plan.{Plan}
+use Rattle.desk.specs.Desk.{noPlace}
+use Rattle.desk.specs.Start.{plannedPlace, freshTray}
+use Rattle.desk.specs.StartLaws.{settled, keeper-below}
 use Rattle.desk_start.proofs.tray.Statement.{statement}
 use Rattle.desk_start.proofs.tray.Tie as tie
 
 -- what the loop stores at place k
-abbrev stored-at : ℕ → List ℕ → ℕ → ℕ
-stored-at cells keepers k = storedKeeper cells k (getD keepers k 0)
+abbrev planned-at : Plan → ℕ → Place
+planned-at plan k = plannedPlace (plan .cells) k (getD (plan .keepers) k 0)
 
 abbrev Inv-loop : tie.InvT-loop
-Inv-loop desks cells keepers count stored₀ c₀ stored c = (c ≤ 32) × (stored ≡ upTo (stored-at cells keepers) c (replicate 32 0))
+Inv-loop plan keepers cells places₀ c₀ places c = (c ≤ 32) × (places ≡ upTo (planned-at plan) c (replicate 32 noPlace))
 
 abbrev μ-loop : tie.MeasureT-loop
-μ-loop desks cells keepers count stored₀ c₀ stored c = 32 - c
+μ-loop plan keepers cells places₀ c₀ places c = 32 - c
+
+cast-cells : tie.Need-cast-cells Inv-loop μ-loop
+cast-cells c = search needs
 
 loop-holds : tie.Need-loop-holds Inv-loop μ-loop
 unfolding upTo
 loop-holds c = (search needs, refl)
 
-mul-stored-keeper : tie.Need-mul-stored-keeper Inv-loop μ-loop
-mul-stored-keeper c = search needs
+mul-planned-place : tie.Need-mul-planned-place Inv-loop μ-loop
+mul-planned-place c = search needs
 
-array-read-stored-keeper : tie.Need-array-read-stored-keeper Inv-loop μ-loop
-array-read-stored-keeper c = search needs
+array-read-planned-place : tie.Need-array-read-planned-place Inv-loop μ-loop
+array-read-planned-place c = search needs
 
-stored-keeper-requires : tie.Need-stored-keeper-requires Inv-loop μ-loop
-stored-keeper-requires c κs =
-    let a = c .before .before .args in
-    let long : length (a .t3) ≡ 32 = search needs in
-    let s = settled (a .desks) (a .cells) (a .t3) (c .before .before .pre) in
-    λ used. omega (arith, keeper-below s (c .before .loop .c) (ltb-true (c .before .loop .c) (a .cells) used) (omega arith), s .desks-most)
+planned-place-requires : tie.Need-planned-place-requires Inv-loop μ-loop
+planned-place-requires c κs =
+    let at-start = c .before .before .before .before in
+    let p = at-start .args .plan in
+    let long : length (p .keepers) ≡ 32 = search needs in
+    let s = settled p (at-start .pre) in
+    λ used. omega (arith, keeper-below s (c .before .loop .c) used (omega arith), s .desks-most)
 
-array-write-stored : tie.Need-array-write-stored Inv-loop μ-loop
-array-write-stored c = search needs
+array-set-from-places : tie.Need-array-set-from-places Inv-loop μ-loop
+array-set-from-places c = search needs
 
 add-c : tie.Need-add-c Inv-loop μ-loop
 add-c c = search needs
@@ -52,37 +58,35 @@ loop-less c = search needs
 
 loop-again : tie.Need-loop-again Inv-loop μ-loop
 loop-again c =
-    let at-loop = c .before .before in
-    let a = at-loop .before .args in
-    let k = at-loop .loop .c in (
+    let l = c .before .before .loop in (
       omega arith,
-      ap₂ (λ (l : List ℕ) (x : ℕ). set l k x) (at-loop .loop .inv .1) (c .stored-keeper .ensures)
-          ∙ upTo-step (stored-at (a .cells) (a .t3)) k (replicate 32 0),
+      ap₂ (λ (r : List Place) (x : Place). set r (l .c) x) (l .inv .1) (c .planned-place .ensures)
+          ∙ upTo-step (planned-at (c .before .before .before .before .before .args .plan)) (l .c) (replicate 32 noPlace),
     )
+
+cast-t15 : tie.Need-cast-t15 Inv-loop μ-loop
+cast-t15 c =
+    let at-start = c .before .before .before .before .before in
+    omega (arith, settled (at-start .args .plan) (at-start .pre) .desks-most)
 
 cast-t16 : tie.Need-cast-t16 Inv-loop μ-loop
 cast-t16 c =
-    let a = c .before .before .args in
-    omega (arith, settled (a .desks) (a .cells) (a .t3) (c .before .before .pre) .desks-most)
-
-cast-t17 : tie.Need-cast-t17 Inv-loop μ-loop
-cast-t17 c =
-    let a = c .before .before .args in
-    omega (arith, settled (a .desks) (a .cells) (a .t3) (c .before .before .pre) .cells-most)
+    let at-start = c .before .before .before .before .before .before in
+    omega (arith, settled (at-start .args .plan) (at-start .pre) .cells-most)
 
 returns : tie.Need-returns Inv-loop μ-loop
 unfolding freshTray
 returns c =
-    let at-loop = c .before in
-    let a = at-loop .before .args in
-    let long : length (a .t3) ≡ 32 = search needs in
-    let end : at-loop .loop .c ≡ 32 = omega arith in
-    let store = storedKeeper (a .cells) in
+    let p = c .before .before .before .before .before .before .args .plan in
+    let l = c .before .before .before .loop in
+    let long : length (p .keepers) ≡ 32 = search needs in
+    let end : l .c ≡ 32 = omega arith in
+    let place = plannedPlace (p .cells) in
     let all =
-    upTo-all (stored-at (a .cells) (a .t3)) (at-loop .loop .c) (replicate 32 0) (mapAt store (a .t3)) 0 (sym end)
-    (omega (arith, length-mapAt store (a .t3))) (λ k h. getD-mapAt store (a .t3) k 0 0 (omega arith))
+    upTo-all (planned-at p) (l .c) (replicate 32 noPlace) (mapAt place (p .keepers)) noPlace (sym end)
+    (omega (arith, length-mapAt place (p .keepers))) (λ k h. getD-mapAt place (p .keepers) k 0 noPlace (omega arith))
     in
-    λ i. record { desks = a .desks; cells = a .cells; keepers = (at-loop .loop .inv .1 ∙ all) i }
+    λ i. record { counts = record { desks = p .desks; cells = p .cells }; places = (l .inv .1 ∙ all) i }
 
 pub tray-spec : {M : Type 1} → statement M
 tray-spec =
@@ -90,14 +94,15 @@ tray-spec =
     (tie.spec
     Inv-loop
     μ-loop
+    cast-cells
     loop-holds
-    mul-stored-keeper
-    array-read-stored-keeper
-    stored-keeper-requires
-    array-write-stored
+    mul-planned-place
+    array-read-planned-place
+    planned-place-requires
+    array-set-from-places
     add-c
     loop-less
     loop-again
+    cast-t15
     cast-t16
-    cast-t17
     returns)
