@@ -1,47 +1,46 @@
 // Setting up a table.
 ghost use mathlib.Core.Path.{_≡_};
 ghost use Rattle.table.specs.SetUp.{freshTable, setUpRule};
-use clock::Clock;
 use desk::Cell;
-use desk::Slot;
+use desk::Plan;
+use desk::Seat;
 use desk::Tray;
+use desk::sound::keeps_at;
 use desk_start::kept_alone;
 use table::SetUp;
 use table::Table;
 
-// Any counts and 32 keepers; those past the cell count are ignored.
-pub fn set_up(desks: u32, cells: u32, keepers: [u32; 32]) -> SetUp
-    ensures { λ r. ⌜ r ≡ setUpRule desks cells keepers ⌝ }
+// A fresh table from any plan.
+pub fn set_up(plan: Plan) -> SetUp
+    ensures { λ r. ⌜ r ≡ setUpRule plan ⌝ }
 {
-    let code = desk_start::refusal(desks, cells, keepers);
+    let code = desk_start::refusal(plan);
     if code != 0 {
         return SetUp {
             code,
             table: Table::NONE,
         };
     }
-    let tray = desk_start::tray(desks, cells, keepers);
     SetUp {
         code: 0,
-        table: fresh(tray),
+        table: fresh(desk_start::tray(plan)),
     }
 }
 
+// Entry i of the table is cell i % 32 of desk i / 32.
 fn fresh(t: Tray) -> Table
     ensures { λ r. ⌜ r ≡ freshTable t ⌝ }
 {
-    let count = t.cells as usize;
+    let n = t.counts;
     let mut cells = [Cell::NONE; 256];
     for i in 0..256 {
+        let desk = (i / 32) as u8;
         let c = i % 32;
-        let kept = (c < count) & (t.keepers[c] as usize == i / 32);
-        cells[i] = kept_alone(kept);
+        cells[i] = kept_alone(keeps_at(n, t.places[c], desk, c));
     }
     Table {
-        tray: t,
-        clocks: [Clock::ZERO; 8],
-        slots: [Slot::NONE; 8],
-        served: [false; 8],
         cells,
+        tray: t,
+        seats: [Seat::NONE; 8],
     }
 }

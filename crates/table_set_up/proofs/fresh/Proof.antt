@@ -2,37 +2,37 @@
 -- Assumes nothing.
 use borrow.Author.Needs.{needs}
 use native.Mathlib.Omega.{arith}
-use mathlib.Core.Path.{_≡_, refl, sym, ap₂, _∙_}
-use mathlib.Core.Bool.{false}
+use mathlib.Core.Path.{_≡_, sym, refl, ap, ap₂, _∙_}
+use mathlib.Core.Bool.{Bool}
 use mathlib.Core.List.{List}
 use Prim.Native.Nat.{_-_, _≤_}
 use lib.ListN.{set, replicate}
-use Rattle.clock.specs.Clock.{zeroClock}
 use Rattle.theory_lists.specs.Replaced.{upTo, upTo-step, upTo-mapAt}
 use Rattle.desk.specs.declared.Cell.{Cell}
-use Rattle.desk.specs.Desk.{noCell, noSlot, pastEnd, keeps}
+use Rattle.desk.specs.Desk.{noCell, noSeat, pastCell, keeps}
+use Rattle.desk.specs.Start.{heldIf}
 use Rattle.table.specs.SetUp.{freshCell, freshTable}
 use Rattle.table_set_up.proofs.fresh.Statement.{statement}
 use Rattle.table_set_up.proofs.fresh.Tie as tie
 
 abbrev Inv-loop : tie.InvT-loop
-Inv-loop t count cells₀ i₀ cells i = (i ≤ 256) × (cells ≡ upTo (freshCell t) i (replicate 256 noCell))
+Inv-loop t n cells₀ i₀ cells i = (i ≤ 256) × (cells ≡ upTo (freshCell t) i (replicate 256 noCell))
 
 abbrev μ-loop : tie.MeasureT-loop
-μ-loop t count cells₀ i₀ cells i = 256 - i
-
-cast-count : tie.Need-cast-count Inv-loop μ-loop
-cast-count c = search needs
+μ-loop t n cells₀ i₀ cells i = 256 - i
 
 loop-holds : tie.Need-loop-holds Inv-loop μ-loop
 unfolding upTo
 loop-holds c = (search needs, refl)
 
-element-copy-out-kept : tie.Need-element-copy-out-kept Inv-loop μ-loop
-element-copy-out-kept c = omega arith
+cast-desk : tie.Need-cast-desk Inv-loop μ-loop
+cast-desk c = search needs
 
-cast-kept : tie.Need-cast-kept Inv-loop μ-loop
-cast-kept c = search needs
+element-copy-out-keeps-at : tie.Need-element-copy-out-keeps-at Inv-loop μ-loop
+element-copy-out-keeps-at c = search needs
+
+keeps-at-requires : tie.Need-keeps-at-requires Inv-loop μ-loop
+keeps-at-requires c κs = search needs
 
 kept-alone-requires : tie.Need-kept-alone-requires Inv-loop μ-loop
 kept-alone-requires c κs = search needs
@@ -52,23 +52,20 @@ loop-less c = search needs
 loop-again : tie.Need-loop-again Inv-loop μ-loop
 unfolding keeps
 loop-again c =
-    let at-loop = c .before .before .before in
-    let t = at-loop .before .args .t1 in
-    let k = at-loop .loop .i in (
+    let k = c .before .before .before .before .loop .i in (
       omega arith,
-      ap₂ (λ (l : List Cell) (x : Cell). set l k x) (at-loop .loop .inv .1) (c .kept-alone .ensures)
-          ∙ upTo-step (freshCell t) k (replicate 256 noCell),
+      ap₂ (λ (l : List Cell) (x : Cell). set l k x) (c .before .before .before .before .loop .inv .1) (c .kept-alone .ensures ∙ ap heldIf (c .before .keeps-at .ensures))
+          ∙ upTo-step (freshCell (c .before .before .before .before .before .before .args .t1)) k (replicate 256 noCell),
     )
 
 returns : tie.Need-returns Inv-loop μ-loop
 unfolding freshTable
 returns c =
-    let at-loop = c .before in
-    let t = at-loop .before .args .t1 in
-    let end : at-loop .loop .i ≡ 256 = omega arith in
-    let all = upTo-mapAt (λ i _. freshCell t i) (at-loop .loop .i) (replicate 256 noCell) pastEnd (sym end) in
-    let cells = at-loop .loop .inv .1 ∙ all in
-    λ i. record { tray = t; clocks = replicate 8 zeroClock; slots = replicate 8 noSlot; served = replicate 8 false; cells = cells i }
+    let t = c .before .before .before .args .t1 in
+    let end : c .before .loop .i ≡ 256 = omega arith in
+    let all = upTo-mapAt (λ i _. freshCell t i) (c .before .loop .i) (replicate 256 noCell) pastCell (sym end) in
+    let cells = c .before .loop .inv .1 ∙ all in
+    λ i. record { cells = cells i; tray = t; seats = replicate 8 noSeat }
 
 pub fresh-spec : {M : Type 1} → statement M
 fresh-spec =
@@ -76,10 +73,10 @@ fresh-spec =
     (tie.spec
     Inv-loop
     μ-loop
-    cast-count
     loop-holds
-    element-copy-out-kept
-    cast-kept
+    cast-desk
+    element-copy-out-keeps-at
+    keeps-at-requires
     kept-alone-requires
     mul-cells
     array-set-from-cells
