@@ -5,10 +5,12 @@ ghost use Rattle.desk.specs.Rules.{fitsBring, brought, bringRefusal, bringDone,
 use desk::Cell;
 use desk::Message;
 use desk::Record;
+use desk::Seat;
 use desk::Slot;
 use desk::Step;
 use desk::sound::sound;
 use desk::sound::waits;
+use desk_steps::answer_kind;
 use desk_steps::is_blank;
 use desk_steps::lose;
 use desk_steps::of_tray;
@@ -33,17 +35,20 @@ pub fn bring_done(v: Record, m: Message) -> Step
 {
     let c = m.cell as usize;
     let stamp = m.clock;
-    let empty = Slot::NONE;
     let mut others = v.row;
     others[c] = Cell::NONE;
     let loss = lose(v.tray, v.desk, stamp, others);
     let mut row = loss.row;
-    row[c] = named(v.served, m);
+    row[c] = named(v.seat.served, m);
+    let clock = v.seat.clock.merge(stamp);
+    let seat = Seat {
+        clock,
+        slot: Slot::NONE,
+        served: false,
+    };
     let mut after = v;
-    after.clock = v.clock.merge(stamp);
+    after.seat = seat;
     after.row = row;
-    after.slot = empty;
-    after.served = false;
     let blank = (m.kind == 3) & is_blank(m.word, stamp);
     replied(shown_code(blank), m.word, loss.count, after)
 }
@@ -54,7 +59,7 @@ fn refusal(v: Record, m: Message) -> u32
     if !sound(v) {
         return 9;
     }
-    if !waits(v.slot) {
+    if !waits(v.seat.slot) {
         return 13;
     }
     if !answer_fits(v, m) {
@@ -64,11 +69,12 @@ fn refusal(v: Record, m: Message) -> u32
 }
 
 fn answer_fits(v: Record, m: Message) -> bool
-    requires { ⌜ v .slot .kind < 3 ⌝ }
+    requires { ⌜ v .seat .slot .kind < 3 ⌝ }
     ensures { λ r. ⌜ r ≡ fitsBring v m ⌝ }
 {
-    let kind = v.slot.kind + 2;
-    of_tray(v, m) & ((m.desk == v.desk) & (m.cell == v.slot.cell) & (m.kind == kind))
+    let slot = v.seat.slot;
+    let kind = answer_kind(slot.kind);
+    of_tray(v, m) & ((m.desk == v.desk) & (m.cell == slot.cell) & (m.kind == kind))
 }
 
 fn named(served: bool, m: Message) -> Cell

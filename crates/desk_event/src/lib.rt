@@ -9,15 +9,17 @@ use desk::Event;
 use desk::Message;
 use desk::Record;
 use desk::Reply;
+use desk::Seat;
 use desk::Slot;
 use desk::Step;
 use desk::sound::keeps;
 use desk::sound::sound;
-use desk::sound::waits;
 use desk_steps::is_blank;
+use desk_steps::is_own;
 use desk_steps::one_if;
 use desk_steps::refused;
 use desk_steps::replied;
+use desk_steps::seat_refusal;
 use desk_steps::shown_code;
 
 // Kinds 1 Read, 2 Write and 5 Drop for this desk, whatever desk the event names.
@@ -33,7 +35,7 @@ pub fn event(v: Record, e: Event) -> Step
 
 // What an event does once nothing refuses. The table, which has looked at all of that itself, calls this.
 pub fn event_done(v: Record, e: Event) -> Step
-    requires { ⌜ (e .cell < 32) × (v .desk < 8) × (e .kind ≡ 2 → number (v .clock) (v .desk) < 4294967295) ⌝ }
+    requires { ⌜ (e .cell < 32) × (v .desk < 8) × (e .kind ≡ 2 → number (v .seat .clock) (v .desk) < 4294967295) ⌝ }
     ensures { λ r. ⌜ r ≡ eventDone v e ⌝ }
 {
     let kind = e.kind;
@@ -51,30 +53,14 @@ pub fn event_done(v: Record, e: Event) -> Step
 fn refusal(v: Record, e: Event) -> u32
     ensures { λ r. ⌜ r ≡ eventRefusal v e ⌝ }
 {
-    let kind = e.kind;
-    let cells = v.tray.cells as u32;
+    let own = is_own(e);
     if !sound(v) {
         return 9;
     }
-    if !((kind == 1) | (kind == 2) | (kind == 5)) {
+    if !own {
         return 8;
     }
-    if cells <= e.cell {
-        return 11;
-    }
-    if waits(v.slot) {
-        return 12;
-    }
-    let c = e.cell as usize;
-    let desk = v.desk as usize;
-    let clock = v.clock;
-    if (kind == 5) & keeps(v.tray, v.desk, c) {
-        return 14;
-    }
-    if (kind == 2) & (clock.n[desk] == 4294967295) {
-        return 16;
-    }
-    0
+    seat_refusal(v.tray, v.desk, v.seat, e)
 }
 
 // A held cell is shown; for another its keeper is asked.
@@ -99,15 +85,17 @@ fn read(v: Record, c: usize) -> Step
 
 // The keeper stores its word under its next number; another desk sends that number and does not take it as its own yet.
 fn write(v: Record, c: usize, word: u32) -> Step
-    requires { ⌜ (c < 32) × (v .desk < 8) × (number (v .clock) (v .desk) < 4294967295) ⌝ }
+    requires { ⌜ (c < 32) × (v .desk < 8) × (number (v .seat .clock) (v .desk) < 4294967295) ⌝ }
     ensures { λ r. ⌜ r ≡ writeRule v c word ⌝ }
 {
     let desk = v.desk as usize;
-    let mut next = v.clock;
+    let mut next = v.seat.clock;
     next.n[desk] = next.n[desk] + 1;
     if keeps(v.tray, v.desk, c) {
+        let mut seat = v.seat;
+        seat.clock = next;
         let mut after = v;
-        after.clock = next;
+        after.seat = seat;
         after.row[c] = Cell {
             held: true,
             word,
@@ -142,9 +130,14 @@ fn asked(v: Record, s: Slot) -> Step
     ensures { λ r. ⌜ r ≡ asks v s ⌝ }
 {
     let clock = s.clock;
+    let own = v.seat.clock;
+    let seat = Seat {
+        clock: own,
+        slot: s,
+        served: false,
+    };
     let mut after = v;
-    after.slot = s;
-    after.served = false;
+    after.seat = seat;
     Step {
         reply: Reply {
             code: 1,
@@ -153,7 +146,7 @@ fn asked(v: Record, s: Slot) -> Step
         },
         message: Message {
             kind: s.kind,
-            desks: v.tray.desks,
+            desks: v.tray.counts.desks,
             desk: v.desk,
             cell: s.cell,
             word: s.word,

@@ -11,6 +11,7 @@ use desk::Step;
 use desk::sound::keeps;
 use desk::sound::sound;
 use desk::sound::waits;
+use desk_steps::answer_kind;
 use desk_steps::lose;
 use desk_steps::of_tray;
 use desk_steps::refused;
@@ -50,16 +51,17 @@ fn refusal(keeper: Record, m: Message) -> u32
 }
 
 fn request_fits(keeper: Record, m: Message) -> bool
-    requires { ⌜ keeper .tray .cells ≤ 32 ⌝ }
+    requires { ⌜ keeper .tray .counts .cells ≤ 32 ⌝ }
     ensures { λ r. ⌜ r ≡ fitsServe keeper m ⌝ }
 {
-    if keeper.tray.cells <= m.cell {
+    let n = keeper.tray.counts;
+    if n.cells <= m.cell {
         return false;
     }
     let c = m.cell as usize;
     of_tray(keeper, m)
         & ((m.kind == 1) | (m.kind == 2))
-        & ((m.desk < keeper.tray.desks) & (m.desk != keeper.desk))
+        & ((m.desk < n.desks) & (m.desk != keeper.desk))
         & keeps(keeper.tray, keeper.desk, c)
 }
 
@@ -77,7 +79,8 @@ fn take_write(keeper: Record, m: Message) -> Step
     ensures { λ r. ⌜ r ≡ writeServed keeper m ⌝ }
 {
     let c = m.cell as usize;
-    let stamp = keeper.clock.merge(m.clock);
+    let mut seat = keeper.seat;
+    let stamp = seat.clock.merge(m.clock);
     let held = keeper.row;
     let loss = lose(keeper.tray, keeper.desk, m.clock, held);
     let mut row = loss.row;
@@ -86,10 +89,11 @@ fn take_write(keeper: Record, m: Message) -> Step
         word: m.word,
         stamp,
     };
+    seat.clock = stamp;
+    seat.served = seat.served | waits(seat.slot);
     let mut after = keeper;
-    after.clock = stamp;
+    after.seat = seat;
     after.row = row;
-    after.served = keeper.served | waits(keeper.slot);
     answered(after, m, m.word, stamp, loss.count)
 }
 
@@ -97,6 +101,7 @@ fn answered(after: Record, m: Message, word: u32, stamp: Clock, count: u32) -> S
     requires { ⌜ m .kind < 3 ⌝ }
     ensures { λ r. ⌜ r ≡ replied·def 0 0 count (answerTo m word stamp) after ⌝ }
 {
+    let kind = answer_kind(m.kind);
     Step {
         reply: Reply {
             code: 0,
@@ -104,7 +109,7 @@ fn answered(after: Record, m: Message, word: u32, stamp: Clock, count: u32) -> S
             count,
         },
         message: Message {
-            kind: m.kind + 2,
+            kind,
             desks: m.desks,
             desk: m.desk,
             cell: m.cell,

@@ -40,7 +40,17 @@ replied-requires c κs = search needs
 
 returns : tie.Need-returns
 unfolding bringDone brings
-returns c = rw (← c .before .before .before .before .merge .ensures, ← c .before .before .before .before .before .named .ensures, ← c .before .before .before .before .before .before .before .lose .ensures .0, ← c .before .before .before .before .before .before .before .lose .ensures .1, ← c .before .before .is-blank .ensures, ← c .before .shown-code .ensures) (c .replied .ensures)
+returns c =
+    let loss = c .before .before .before .before .before .before .before .lose .ensures in
+    rw (
+      ← c .before .before .before .before .merge .ensures,
+      ← c .before .before .before .before .before .named .ensures,
+      ← loss .0,
+      ← loss .1,
+      ← c .before .before .is-blank .ensures,
+      ← c .before .shown-code .ensures,
+    )
+    (c .replied .ensures)
 
 pub bring-done-spec : {M : Type 1} → statement M
 bring-done-spec =

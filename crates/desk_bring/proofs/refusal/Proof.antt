@@ -3,8 +3,9 @@
 use borrow.Author.Needs.{needs}
 use native.Mathlib.Omega.{arith}
 use mathlib.Core.Path.{sym, _∙_}
-use borrow.Author.Tests.{not-true, not-false}
-use Rattle.desk.specs.Rules.{bringRefusal}
+use borrow.Author.Tests.{not-false}
+use Rattle.theory_refusals.specs.Refusals.{firstOf}
+use Rattle.desk.specs.Rules.{bringLines, bringRefusal}
 use Rattle.desk.specs.SoundLaws.{sound-rule}
 use Rattle.desk_bring.proofs.refusal.Statement.{statement}
 use Rattle.desk_bring.proofs.refusal.Tie as tie
@@ -13,26 +14,44 @@ sound-requires : tie.Need-sound-requires
 sound-requires c κs = search needs
 
 returns : tie.Need-returns
-unfolding bringRefusal
-returns c = rw (← c .before .sound .ensures, not-true (c .before .sound .result) (c .if1 .taken))
+unfolding bringRefusal bringLines firstOf
+returns c = rw (← c .before .sound .ensures, c .if1 .taken)
 
 waits-requires : tie.Need-waits-requires
 waits-requires c κs = search needs
 
 returns-2 : tie.Need-returns-2
-unfolding bringRefusal
-returns-2 c = rw (← c .before .before .before .sound .ensures, not-false (c .before .before .before .sound .result) (c .before .before .if1 .left), ← c .before .waits .ensures, not-true (c .before .waits .result) (c .if2 .taken))
+unfolding bringRefusal bringLines firstOf
+returns-2 c = rw (← c .before .before .before .sound .ensures, c .before .before .if1 .left, ← c .before .waits .ensures, c .if2 .taken)
 
 answer-fits-requires : tie.Need-answer-fits-requires
-answer-fits-requires c κs = omega (arith, sound-rule (c .before .before .before .before .args .v) (sym (c .before .before .before .sound .ensures) ∙ not-false (c .before .before .before .sound .result) (c .before .before .if1 .left)) .asked)
+answer-fits-requires c κs =
+    let v = c .before .before .before .before .args .v in
+    omega (arith, sound-rule v (sym (c .before .before .before .sound .ensures) ∙ not-false (c .before .before .before .sound .result) (c .before .before .if1 .left)) .asked)
 
 returns-3 : tie.Need-returns-3
-unfolding bringRefusal
-returns-3 c = rw (← c .before .before .before .before .before .sound .ensures, not-false (c .before .before .before .before .before .sound .result) (c .before .before .before .before .if1 .left), ← c .before .before .before .waits .ensures, not-false (c .before .before .before .waits .result) (c .before .before .if2 .left), ← c .before .answer-fits .ensures, not-true (c .before .answer-fits .result) (c .if3 .taken))
+unfolding bringRefusal bringLines firstOf
+returns-3 c =
+    rw (
+      ← c .before .before .before .before .before .sound .ensures,
+      c .before .before .before .before .if1 .left,
+      ← c .before .before .before .waits .ensures,
+      c .before .before .if2 .left,
+      ← c .before .answer-fits .ensures,
+      c .if3 .taken,
+    )
 
 returns-4 : tie.Need-returns-4
-unfolding bringRefusal
-returns-4 c = rw (← c .before .before .before .before .before .sound .ensures, not-false (c .before .before .before .before .before .sound .result) (c .before .before .before .before .if1 .left), ← c .before .before .before .waits .ensures, not-false (c .before .before .before .waits .result) (c .before .before .if2 .left), ← c .before .answer-fits .ensures, not-false (c .before .answer-fits .result) (c .if3 .left))
+unfolding bringRefusal bringLines firstOf
+returns-4 c =
+    rw (
+      ← c .before .before .before .before .before .sound .ensures,
+      c .before .before .before .before .if1 .left,
+      ← c .before .before .before .waits .ensures,
+      c .before .before .if2 .left,
+      ← c .before .answer-fits .ensures,
+      c .if3 .left,
+    )
 
 pub refusal-spec : {M : Type 1} → statement M
 refusal-spec =

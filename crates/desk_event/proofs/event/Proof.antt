@@ -7,8 +7,9 @@ use mathlib.Core.Path.{sym, _∙_}
 use mir.Syntax.{w32}
 use mir.Val.{Fits}
 use Rattle.clock.specs.Clock.{number}
-use Rattle.desk.specs.Rules.{unless, eventDone, eventRule}
-use Rattle.desk.specs.RuleLaws.{unless-refused, allowed, desk-below, event-place}
+use Rattle.theory_refusals.specs.Refusals.{unless-refused, unless-done}
+use Rattle.desk.specs.RuleLaws.{allowed, desk-below, event-place}
+use Rattle.desk.specs.Rules.{eventRule}
 use Rattle.desk_event.proofs.event.Statement.{statement}
 use Rattle.desk_event.proofs.event.Tie as tie
 
@@ -20,7 +21,7 @@ refused-requires c κs = search needs
 
 returns : tie.Need-returns
 unfolding eventRule
-returns c = rw (← c .before .before .refusal .ensures) (c .refused .ensures ∙ sym (unless-refused (c .before .before .refusal .result) (c .before .before .before .args .v) (eventDone (c .before .before .before .args .v) (c .before .before .before .args .e)) (c .before .if1 .taken)))
+returns c = let some = c .before .if1 .taken in rw (← c .before .before .refusal .ensures, unless-refused) (c .refused .ensures)
 
 event-done-requires : tie.Need-event-done-requires
 event-done-requires c κs =
@@ -28,12 +29,12 @@ event-done-requires c κs =
     let e = c .before .before .args .e in
     let none = sym (c .before .refusal .ensures) ∙ c .if1 .left in
     let a = allowed v e none in
-    let fits : Fits w32 (number (v .clock) (v .desk)) = search needs in
-    (event-place v e none, desk-below v (a .sound), λ write. omega (arith, fits, a .below write))
+    let fits : Fits w32 (number (v .seat .clock) (v .desk)) = search needs in
+    (event-place v e none, desk-below v (a .sound), λ write. omega (arith, fits, a .seat .below write))
 
 returns-2 : tie.Need-returns-2
-unfolding eventRule unless
-returns-2 c = rw (← c .before .before .refusal .ensures, c .before .if1 .left) (c .event-done .ensures)
+unfolding eventRule
+returns-2 c = let none = c .before .if1 .left in rw (← c .before .before .refusal .ensures, unless-done) (c .event-done .ensures)
 
 pub event-spec : {M : Type 1} → statement M
 event-spec =

@@ -22,7 +22,13 @@ replied-requires c κs = search needs
 
 returns : tie.Need-returns
 unfolding readRule
-returns c = rw (c .before .before .before .if1 .taken, ← c .before .before .is-blank .ensures, ← c .before .shown-code .ensures) (c .replied .ensures)
+returns c =
+    rw (
+      c .before .before .before .if1 .taken,
+      ← c .before .before .is-blank .ensures,
+      ← c .before .shown-code .ensures,
+    )
+    (c .replied .ensures)
 
 cast-t14 : tie.Need-cast-t14
 cast-t14 c = search needs

@@ -27,8 +27,8 @@ element-write-next c = search needs
 keeps-requires : tie.Need-keeps-requires
 keeps-requires c κs = search needs
 
-mul-t18 : tie.Need-mul-t18
-mul-t18 c = search needs
+mul-t19 : tie.Need-mul-t19
+mul-t19 c = search needs
 
 element-set-from-after : tie.Need-element-set-from-after
 element-set-from-after c = search needs
@@ -38,10 +38,10 @@ replied-requires c κs = search needs
 
 returns : tie.Need-returns
 unfolding writeRule raised
-returns c = rw (← c .before .before .keeps .ensures, c .before .if1 .taken) (c .replied .ensures)
+returns c = rw (← c .before .before .before .keeps .ensures, c .before .before .if1 .taken) (c .replied .ensures)
 
-cast-t22 : tie.Need-cast-t22
-cast-t22 c = search needs
+cast-t23 : tie.Need-cast-t23
+cast-t23 c = search needs
 
 asked-requires : tie.Need-asked-requires
 asked-requires c κs = search needs
@@ -61,10 +61,10 @@ write-spec =
     mul-next-2
     element-write-next
     keeps-requires
-    mul-t18
+    mul-t19
     element-set-from-after
     replied-requires
     returns
-    cast-t22
+    cast-t23
     asked-requires
     returns-2)

@@ -28,7 +28,9 @@ answered-requires c κs = search needs
 
 returns : tie.Need-returns
 unfolding writeServed takes
-returns c = rw (← c .before .before .waits .ensures, ← c .before .before .before .before .lose .ensures .0, ← c .before .before .before .before .lose .ensures .1, ← c .before .before .before .before .before .before .merge .ensures) (c .answered .ensures)
+returns c =
+    let loss = c .before .before .before .before .lose .ensures in
+    rw (← c .before .before .waits .ensures, ← loss .0, ← loss .1, ← c .before .before .before .before .before .before .merge .ensures) (c .answered .ensures)
 
 pub take-write-spec : {M : Type 1} → statement M
 take-write-spec =
