@@ -7,11 +7,11 @@ use Rattle.desk.specs.declared.Message.{Message}
 use Rattle.desk.specs.declared.Record.{Record}
 use Rattle.desk.specs.declared.Step.{Step}
 use Rattle.desk.specs.Desk.{noMessage}
-use Rattle.desk.specs.RuleLaws.{unless-refused}
-use Rattle.desk.specs.Rules.{unless, eventRefusal, eventDone, eventRule, serveRefusal, serveRule, bringRefusal, bringRule}
+use Rattle.desk.specs.Rules.{refused, eventRefusal, eventRule, serveRefusal, serveRule, bringRefusal, bringRule}
+use Rattle.desk.specs.StepLaws.{event-refused, serve-refused, bring-refused}
 use Rattle.table.specs.declared.Table.{Table}
 use Rattle.table.specs.Rules as table
-use Rattle.table.specs.RuleLaws.{event-refused}
+use Rattle.table.specs.RuleLaws as laws
 use Rattle.cwmorlais.specs.declared.Answer.{Answer}
 
 -- the reply and the message; the step's record goes back to the lender
@@ -30,22 +30,19 @@ refusal n = record { reply = record { code = n; value = 0; count = 0 }; message 
 abbrev pub Refuses : ℕ → Record → Step → Type 0
 Refuses n v s = (answerOf s ≡ refusal n) × (s .after ≡ v)
 
-refuses : (n : ℕ) (v : Record) (s : Step) → (n ≡ 0 → ⊥) → Refuses n v (unless n v s)
-refuses n v s some = (ap answerOf (unless-refused n v s some), ap (λ t. t .after) (unless-refused n v s some))
+refuses : (n : ℕ) (v : Record) (s : Step) → s ≡ refused v n → Refuses n v s
+refuses n v s e = (ap answerOf e, ap (λ (t : Step). t .after) e)
 
 pub event-refuses : (v : Record) (e : Event) → (eventRefusal v e ≡ 0 → ⊥) → Refuses (eventRefusal v e) v (eventRule v e)
-unfolding eventRule
-event-refuses v e some = refuses (eventRefusal v e) v _ some
+event-refuses v e some = refuses (eventRefusal v e) v (eventRule v e) (event-refused v e some)
 
 pub serve-refuses : (v : Record) (m : Message) → (serveRefusal v m ≡ 0 → ⊥) → Refuses (serveRefusal v m) v (serveRule v m)
-unfolding serveRule
-serve-refuses v m some = refuses (serveRefusal v m) v _ some
+serve-refuses v m some = refuses (serveRefusal v m) v (serveRule v m) (serve-refused v m some)
 
 pub bring-refuses : (v : Record) (m : Message) → (bringRefusal v m ≡ 0 → ⊥) → Refuses (bringRefusal v m) v (bringRule v m)
-unfolding bringRule
-bring-refuses v m some = refuses (bringRefusal v m) v _ some
+bring-refuses v m some = refuses (bringRefusal v m) v (bringRule v m) (bring-refused v m some)
 
 -- ---- "The reply is the number, value 0, count 0; the table stays as given."
 pub table-refuses : (t : Table) (e : Event) → (table.refusal t e ≡ 0 → ⊥)
     → (table.eventRule t e .reply ≡ refusal (table.refusal t e) .reply) × (table.eventRule t e .after ≡ t)
-table-refuses t e some = (ap (λ o. o .reply) (event-refused t e some), ap (λ o. o .after) (event-refused t e some))
+table-refuses t e some = (ap (λ o. o .reply) (laws.event-refused t e some), ap (λ o. o .after) (laws.event-refused t e some))

@@ -1,4 +1,4 @@
-// The library for Rust and C. A lent record is loaded, goes through a step by value, and is stored; a lent table is worked on where it lies.
+// The library for Rust and C. A lent record or table is loaded, goes through a step by value, and is stored.
 ghost use mathlib.Core.Path.{_≡_};
 ghost use Rattle.desk.specs.Rules.{eventRule, serveRule, bringRule};
 ghost use Rattle.desk.specs.Start.{startRule};
@@ -8,13 +8,12 @@ ghost use Rattle.table.specs.SetUp.{setUpRule};
 ghost use Rattle.cwmorlais.specs.Answers.{answerOf};
 use desk::Event;
 use desk::Message;
+use desk::Plan;
 use desk::Record;
 use desk::Reply;
-use desk::Start;
+use desk::Started;
 use frame::Reading;
 use frame::Written;
-use refusing::refusal;
-use refusing::refused;
 use table::SetUp;
 use table::Table;
 
@@ -25,17 +24,12 @@ pub struct Answer {
     pub message: Message,
 }
 
-// A desk's fresh record. Keepers past the cell count are ignored.
+// A desk's fresh record.
 #[no_mangle]
-pub extern "C" fn cwmorlais_desk_start(
-    desks: u32,
-    cells: u32,
-    keepers: &[u32; 32],
-    desk: u32,
-) -> Start
-    ensures { λ r. ⌜ r ≡ startRule desks cells (now (keepers .entry)) desk ⌝ }
+pub extern "C" fn cwmorlais_desk_start(plan: Plan, desk: u32) -> Started
+    ensures { λ r. ⌜ r ≡ startRule plan desk ⌝ }
 {
-    desk_start::start(desks, cells, *keepers, desk)
+    desk_start::start(plan, desk)
 }
 
 // The desk's user wants something. With code 1 the message is the request, for the cell's keeper.
@@ -94,12 +88,12 @@ pub extern "C" fn cwmorlais_frame_write(m: Message, out: &mut [u8]) -> Written
     frame_write::write(m, out)
 }
 
-// A fresh table. Keepers past the cell count are ignored.
+// A fresh table.
 #[no_mangle]
-pub extern "C" fn cwmorlais_table_set_up(desks: u32, cells: u32, keepers: &[u32; 32]) -> SetUp
-    ensures { λ r. ⌜ r ≡ setUpRule desks cells (now (keepers .entry)) ⌝ }
+pub extern "C" fn cwmorlais_table_set_up(plan: Plan) -> SetUp
+    ensures { λ r. ⌜ r ≡ setUpRule plan ⌝ }
 {
-    table_set_up::set_up(desks, cells, *keepers)
+    table_set_up::set_up(plan)
 }
 
 // One event on the lent table.
@@ -107,10 +101,7 @@ pub extern "C" fn cwmorlais_table_set_up(desks: u32, cells: u32, keepers: &[u32;
 pub extern "C" fn cwmorlais_table_event(t: &mut Table, e: Event) -> Reply
     ensures { λ r. ⌜ (r ≡ tableRule (now (t .entry)) e .reply) × (now (t .exit) ≡ tableRule (now (t .entry)) e .after) ⌝ }
 {
-    let ok = held::sound(t);
-    let code = refusal(ok, t.tray, t.clocks, t.slots, e);
-    if code != 0 {
-        return refused(code);
-    }
-    held::moved(t, e)
+    let outcome = table_event::event(*t, e);
+    *t = outcome.after;
+    outcome.reply
 }

@@ -13,7 +13,9 @@ unfoldable pub eventOf : List ℕ → Event
 eventOf ns = record { kind = getD ns 0 0; desk = getD ns 1 0; cell = getD ns 2 0; word = getD ns 3 0 }
 
 unfoldable pub setUp : ℕ → ℕ → List ℕ → ℕ × Table
-setUp desks cells keepers = (setUpRule desks cells keepers .code, setUpRule desks cells keepers .table)
+setUp desks cells keepers =
+    let made = setUpRule (record { desks = desks; cells = cells; keepers = keepers }) in
+    (made .code, made .table)
 
 -- "code, value, count"
 unfoldable pub event : Table → List ℕ → List ℕ × Table

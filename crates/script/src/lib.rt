@@ -1,5 +1,6 @@
 // What the script program answers, as a function from an input slice to an output slice.
 use desk::Event;
+use desk::Plan;
 use desk::Reply;
 use table::Table;
 use text::read_line;
@@ -42,7 +43,11 @@ fn begin(desks: u32, cells: u32, s: &[u8], at: usize, out: &mut [u8]) -> usize
     if (0 < cells) & (cells <= 32) {
         return second(desks, cells, s, at, out);
     }
-    let made = table_set_up::set_up(desks, cells, [0; 32]);
+    let made = table_set_up::set_up(Plan {
+        desks,
+        cells,
+        keepers: [0; 32],
+    });
     put_single(made.code, out, 0)
 }
 
@@ -59,7 +64,11 @@ fn second(desks: u32, cells: u32, s: &[u8], at: usize, out: &mut [u8]) -> usize
         return put_bad_line(2, out, 0);
     }
     let keepers = two.n;
-    let made = table_set_up::set_up(desks, cells, keepers);
+    let made = table_set_up::set_up(Plan {
+        desks,
+        cells,
+        keepers,
+    });
     let code = made.code;
     if code != 0 {
         return put_single(code, out, 0);
@@ -93,7 +102,7 @@ fn run(t: Table, s: &[u8], start: usize, out: &mut [u8]) -> usize
             cell,
             word,
         };
-        let done = moving::event(table, e);
+        let done = table_event::event(table, e);
         table = done.after;
         let reply = done.reply;
         o = put_line(reply, out, o);

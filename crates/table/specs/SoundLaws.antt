@@ -33,12 +33,16 @@ module _ (t : Table) (p c : ℕ) (i : c < 32) where
       let cell : (p * 32 + c) % 32 ≡ c = omega arith in
       rw (desk, cell, entry-is)
 
+pub sound-tray : (t : Table) → tableSound t ≡ true → TrayRule (t .tray)
+unfolding tableSound
+sound-tray t e = tray-rule (t .tray) (search (both-left, both-right))
+
 pub table-rule : (t : Table) → Sized t → tableSound t ≡ true → TableRule t
 unfolding tableSound cellsSound seatsSound recordOf
 table-rule t z e =
     record {
       sized = z;
-      tray-is = tray-rule (t .tray) (search (both-left, both-right));
+      tray-is = sound-tray t e;
       row-is =
           λ p h.
           record {
