@@ -14,10 +14,27 @@ use desk::Message;
 use desk::Record;
 use desk::Reply;
 use desk::Slot;
+use desk_bring::bring_done;
+use desk_event::event_done;
+use desk_serve::serve_done;
 use desk_steps::seat_refusal;
+use table::Outcome;
 use table::Table;
 use table::sound::sound;
 
+// 1 Read, 2 Write, 3 Take, 4 Bring, 5 Drop.
+pub fn event(t: Table, e: Event) -> Outcome
+    ensures { λ r. ⌜ r ≡ eventRule t e ⌝ }
+{
+    let code = refusal(t, e);
+    if code != 0 {
+        return Outcome {
+            reply: refused(code),
+            after: t,
+        };
+    }
+    done(t, e)
+}
 
 // A refusal gives its number.
 fn refused(code: u32) -> Reply
@@ -50,9 +67,60 @@ fn refusal(t: Table, e: Event) -> u32
     seat_refusal(tray, e.desk as u8, t.seats[d], e)
 }
 
+// An event that nothing refuses.
+fn done(t: Table, e: Event) -> Outcome
+    requires { ⌜ Sized t × (refusal·def t e ≡ 0) ⌝ }
+    ensures { λ r. ⌜ r ≡ done·def t e ⌝ }
+{
+    let kind = e.kind;
+    let desk = e.desk as u8;
+    if kind == 3 {
+        return take(t, desk);
+    }
+    if kind == 4 {
+        return bring(t, desk);
+    }
+    own(t, e)
+}
 
+// Kinds 1, 2 and 5.
+fn own(t: Table, e: Event) -> Outcome
+    requires { ⌜ (e .desk < 8) × (e .cell < 32) × (e .kind ≡ 2 → number (seatOf t (e .desk) .clock) (e .desk) < 4294967295) ⌝ }
+    ensures { λ r. ⌜ r ≡ ownRule t e ⌝ }
+{
+    let step = event_done(record_of(t, e.desk as u8), e);
+    Outcome {
+        reply: step.reply,
+        after: put_back(t, step.after),
+    }
+}
 
+// The keeper serves the request, and the answer stands in the asker's slot.
+fn take(t: Table, desk: u8) -> Outcome
+    requires { ⌜ (desk < 8) × (slotOf t desk .cell < 32) × (slotOf t desk .kind < 3) × (keeperFor t desk < 8) ⌝ }
+    ensures { λ r. ⌜ r ≡ takeRule t desk ⌝ }
+{
+    let d = desk as usize;
+    let seat = t.seats[d];
+    let c = seat.slot.cell as usize;
+    let place = t.tray.places[c];
+    let step = serve_done(record_of(t, place.keeper), message_of(t, desk));
+    Outcome {
+        reply: step.reply,
+        after: put_answer(put_back(t, step.after), desk, step.message),
+    }
+}
 
+fn bring(t: Table, desk: u8) -> Outcome
+    requires { ⌜ (desk < 8) × (slotOf t desk .cell < 32) ⌝ }
+    ensures { λ r. ⌜ r ≡ bringRule t desk ⌝ }
+{
+    let step = bring_done(record_of(t, desk), message_of(t, desk));
+    Outcome {
+        reply: step.reply,
+        after: put_back(t, step.after),
+    }
+}
 
 // A desk's slot as a message.
 fn message_of(t: Table, desk: u8) -> Message
