@@ -24,7 +24,8 @@ returns : tie.Need-returns
 unfolding startRefusal startLines setUpRefusal
 returns c =
     let set-up = c .before .refusal .ensures in
-    set-up ∙ sym (first-some (setUpLines (c .before .before .args .plan)) _ (λ none. c .if1 .taken (set-up ∙ none)))
+    let some : c .before .refusal .result ≡ 0 → ⊥ = c .if1 .taken in
+    set-up ∙ sym (first-some (setUpLines (c .before .before .args .plan)) _ (λ none. some (set-up ∙ none)))
 
 returns-2 : tie.Need-returns-2
 returns-2 c =
