@@ -6,7 +6,7 @@ ghost use lib.Seq.{slice};
 ghost use Rattle.clock.specs.Clock.{number};
 ghost use Rattle.desk.specs.Rules.{refusedReply};
 ghost use Rattle.table.specs.Rows.{Sized};
-ghost use Rattle.table.specs.Rules.{refusal as refusal·def, messageOf, putAnswer, ownRule, takeRule, bringRule, done as done·def, eventRule};
+ghost use Rattle.table.specs.Rules.{refusal as refusal·def, outcome as outcome·def, messageOf, putAnswer, ownRule, takeRule, bringRule, done as done·def, eventRule};
 ghost use Rattle.table.specs.Table.{seatOf, slotOf, keeperFor, recordOf, putBack};
 use desk::Cell;
 use desk::Event;
@@ -14,6 +14,7 @@ use desk::Message;
 use desk::Record;
 use desk::Reply;
 use desk::Slot;
+use desk::Step;
 use desk_bring::bring_done;
 use desk_event::event_done;
 use desk_serve::serve_done;
@@ -85,14 +86,11 @@ fn done(t: Table, e: Event) -> Outcome
 
 // Kinds 1, 2 and 5.
 fn own(t: Table, e: Event) -> Outcome
-    requires { ⌜ (e .desk < 8) × (e .cell < 32) × (e .kind ≡ 2 → number (seatOf t (e .desk) .clock) (e .desk) < 4294967295) ⌝ }
+    requires { ⌜ (e .desk < 8) × (e .cell < 32) × (e .kind ≡ 2 → number (seatOf t (e .desk) .clock) (e .desk) ≡ 4294967295 → ⊥) ⌝ }
     ensures { λ r. ⌜ r ≡ ownRule t e ⌝ }
 {
     let step = event_done(record_of(t, e.desk as u8), e);
-    Outcome {
-        reply: step.reply,
-        after: put_back(t, step.after),
-    }
+    outcome(t, step)
 }
 
 // The keeper serves the request, and the answer stands in the asker's slot.
@@ -103,12 +101,13 @@ fn take(t: Table, desk: u8) -> Outcome
     let d = desk as usize;
     let seat = t.seats[d];
     let c = seat.slot.cell as usize;
-    let place = t.tray.places[c];
+    let tray = t.tray;
+    let place = tray.places[c];
     let step = serve_done(record_of(t, place.keeper), message_of(t, desk));
-    Outcome {
-        reply: step.reply,
-        after: put_answer(put_back(t, step.after), desk, step.message),
-    }
+    let served = outcome(t, step);
+    let reply = served.reply;
+    let after = put_answer(served.after, desk, step.message);
+    Outcome { reply, after }
 }
 
 fn bring(t: Table, desk: u8) -> Outcome
@@ -116,10 +115,17 @@ fn bring(t: Table, desk: u8) -> Outcome
     ensures { λ r. ⌜ r ≡ bringRule t desk ⌝ }
 {
     let step = bring_done(record_of(t, desk), message_of(t, desk));
-    Outcome {
-        reply: step.reply,
-        after: put_back(t, step.after),
-    }
+    outcome(t, step)
+}
+
+// What a desk's step makes of the table.
+fn outcome(t: Table, step: Step) -> Outcome
+    requires { ⌜ step .after .desk < 8 ⌝ }
+    ensures { λ r. ⌜ r ≡ outcome·def t step ⌝ }
+{
+    let reply = step.reply;
+    let after = put_back(t, step.after);
+    Outcome { reply, after }
 }
 
 // A desk's slot as a message.
