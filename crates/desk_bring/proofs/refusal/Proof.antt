@@ -27,7 +27,8 @@ returns-2 c = rw (← c .before .before .before .sound .ensures, c .before .befo
 answer-fits-requires : tie.Need-answer-fits-requires
 answer-fits-requires c κs =
     let v = c .before .before .before .before .args .v in
-    omega (arith, sound-rule v (sym (c .before .before .before .sound .ensures) ∙ not-false (c .before .before .before .sound .result) (c .before .before .if1 .left)) .asked)
+    let is = c .before .before .before .sound in
+    omega (arith, sound-rule v (sym (is .ensures) ∙ not-false (is .result) (c .before .before .if1 .left)) .asked)
 
 returns-3 : tie.Need-returns-3
 unfolding bringRefusal bringLines firstOf

@@ -30,7 +30,8 @@ returns : tie.Need-returns
 unfolding writeServed takes
 returns c =
     let loss = c .before .before .before .before .lose .ensures in
-    rw (← c .before .before .waits .ensures, ← loss .0, ← loss .1, ← c .before .before .before .before .before .before .merge .ensures) (c .answered .ensures)
+    let stamp = c .before .before .before .before .before .before .merge .ensures in
+    rw (← c .before .before .waits .ensures, ← loss .0, ← loss .1, ← stamp) (c .answered .ensures)
 
 pub take-write-spec : {M : Type 1} → statement M
 take-write-spec =
