@@ -29,7 +29,7 @@ module _ (s : List ℕ) (at desks cells : ℕ) (some-cell : 0 < cells) (few : ce
   bad : (l .count ≡ cells → ⊥) → whole ≡ badLine 2
   bad ne = second-bad setUp event s at desks cells some-cell few (λ e. ne (ap (λ (x : Line). x .count) q ∙ e))
 
-  made-is : (m : SetUp) → l .count ≡ cells → m ≡ setUpRule desks cells (l .n)
+  made-is : (m : SetUp) → l .count ≡ cells → m ≡ setUpRule (record { desks = desks; cells = cells; keepers = l .n })
       → whole ≡ started setUp event (m .code, m .table) (linesOf (drop (l .next) s))
   unfolding setUp
   made-is m e made =
