@@ -106,8 +106,11 @@ fn take(t: Table, desk: u8) -> Outcome
     let step = serve_done(record_of(t, place.keeper), message_of(t, desk));
     let served = outcome(t, step);
     let reply = served.reply;
-    let after = put_answer(served.after, desk, step.message);
-    Outcome { reply, after }
+    let answered = put_answer(served.after, desk, step.message);
+    Outcome {
+        reply,
+        after: answered,
+    }
 }
 
 fn bring(t: Table, desk: u8) -> Outcome
