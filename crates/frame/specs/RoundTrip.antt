@@ -11,14 +11,14 @@ use lib.Seq.{take-at, take-add, take-take, length-take-le}
 use borrow.Author.Tests.{lt-ltb, le-ltb, eqb-true}
 use Rattle.theory_lists.specs.Sum.{sum}
 use Rattle.theory_lists.specs.Test.{every-mapAt, mapAt-every}
+use Rattle.theory_refusals.specs.Refusals.{unless-either}
 use Rattle.clock.specs.Clock.{number}
 use Rattle.desk.specs.declared.Message.{Message}
 use Rattle.frame.specs.declared.Reading.{Reading}
 use Rattle.frame.specs.declared.Written.{Written}
 use Rattle.frame.specs.Bytes.{numeral, spell, numbers, Bytes, Fitting, length-spell, numbers-spell, spell-numbers, bytes-part}
 use Rattle.frame.specs.Frame.{version, widths, carried, parts, lengthOf, rowOf, messageOf, faultIn, rowIn, lengthIn, versionIn}
-use Rattle.frame.specs.Frame.{messageIn, readCode, readWith, readRule, carriedOrZero, wellFormed, frameOf, writeCode, writtenWith}
-use Rattle.frame.specs.Frame.{writeRule, outputRule}
+use Rattle.frame.specs.Frame.{messageIn, readCode, readRule, carriedOrZero, wellFormed, frameOf, writeCode, writeRule, outputRule}
 use Rattle.frame.specs.Laws.{part-take, number-past, carried-le, length-of, Faultless, faultless, Whole, can-read, Accepted, accepted}
 use Rattle.frame.specs.Laws.{read-accepted, writable, can-write, write-accepted}
 
@@ -47,19 +47,15 @@ counted : (kind desks : ℕ) → sum (take (parts kind desks) widths) ≡ 2 + le
 unfolding lengthOf sum
 counted kind desks = rw (take-add 6 (carried kind desks) widths)
 
-read-code-told : (c : ℕ) (s : List ℕ) → readWith c s .code ≡ c
-unfolding readWith
-read-code-told zero s = refl
-read-code-told (suc c) s = refl
-
 read-told : (s : List ℕ) → readRule s .code ≡ 0 → readCode s ≡ 0
 unfolding readRule
-read-told s e = sym (read-code-told (readCode s) s) ∙ e
+read-told s = unless-either (readCode s) _ _ (λ (r : Reading). r .code ≡ 0 → readCode s ≡ 0) (λ some told. told) (λ none told. none)
 
-code-told : (c : ℕ) (m : Message) → writtenWith c m .code ≡ c
-unfolding writtenWith
-code-told zero m = refl
-code-told (suc c) m = refl
+write-told : (m : Message) (out : List ℕ) → writeRule m out .code ≡ 0 → writeCode m (length out) ≡ 0
+unfolding writeRule
+write-told m out =
+    unless-either (writeCode m (length out)) _ _ (λ (w : Written). w .code ≡ 0 → writeCode m (length out) ≡ 0)
+    (λ some told. told) (λ none told. none)
 
 -- ---- the row of such a message
 module _ (m : Message) (ok : Sendable m) where
@@ -226,9 +222,8 @@ module _ (m : Message) (ok : Sendable m) where
 -- writing into enough room and reading it back, with any bytes after it, gives that message and the same count
 pub write-then-read : (m : Message) (out : List ℕ) → Sized m → writeRule m out .code ≡ 0
     → readRule (outputRule m out) ≡ record { code = 0; message = m; used = writeRule m out .used }
-unfolding writeRule
 write-then-read m out sized e =
-    let told : writeCode m (length out) ≡ 0 = sym (code-told (writeCode m (length out)) m) ∙ e in
+    let told = write-told m out e in
     let w = writable m (length out) told in
     let ok : Sendable m = record { no-fault = w .no-fault; clean = w .clean; sized = sized } in
     let done = write-accepted m out told in

@@ -64,6 +64,12 @@ first-more [] more from none = refl
 first-more ((number, true) ∷ ls) more from none = absurd (omega (arith, leb-true 1 number (both-left (leb 1 number) (numbersFrom 1 ls) from)))
 first-more ((number, false) ∷ ls) more from none = first-more ls more (both-right (leb 1 number) (numbersFrom 1 ls) from) none
 
+pub first-none : (ls more : List Line) → numbersFrom 1 ls ≡ true → firstOf (ls ++ more) ≡ 0 → (firstOf ls ≡ 0) × (firstOf more ≡ 0)
+unfolding firstOf numbersFrom
+first-none [] more from e = (refl, e)
+first-none ((number, true) ∷ ls) more from e = absurd (omega (arith, leb-true 1 number (both-left (leb 1 number) (numbersFrom 1 ls) from)))
+first-none ((number, false) ∷ ls) more from e = first-none ls more (both-right (leb 1 number) (numbersFrom 1 ls) from) e
+
 -- ---- refused, or done
 module _ {A : Type 0} (n : ℕ) (refused : ℕ → A) (done : A) where
   pub unless-refused : (n ≡ 0 → ⊥) → unless n refused done ≡ refused n

@@ -3,15 +3,14 @@
 use borrow.Author.Needs.{needs}
 use native.Mathlib.Omega.{arith}
 use mathlib.Core.Path.{_≡_, sym, _∙_}
-use mathlib.Core.List.{List}
-use mathlib.Core.Bool.{not}
+use mathlib.Core.List.{List, [], _∷_}
 use Prim.Native.Nat.{ℕ, _+_, _*_, _≤_}
-use lib.Dec.{eqb}
 use lib.ListN.{length}
 use borrow.Author.Tests.{eq-eqb, ne-eqb}
-use Rattle.frame.specs.Frame.{carried, lengthIn, messageIn, faultIn, lengthOf, readCode, _given_}
-use Rattle.frame.specs.Laws.{Whole, Faultless, faultless, length-in, version-in, kind-in, desks-in, desk-in, cell-in, carried-le}
-use Rattle.frame.specs.Laws.{length-of, first-refusal, none-first, too-short, cut-off, no-head, other-version, whole-code}
+use Rattle.theory_refusals.specs.Refusals.{firstOf, first-some, first-more}
+use Rattle.frame.specs.Frame.{carried, lengthIn, messageIn, faultsIn, faultIn, wrongLength, lengthOf, readCode}
+use Rattle.frame.specs.Laws.{Whole, Faultless, faultless, fault-numbers, length-in, version-in, kind-in, desks-in, desk-in, cell-in}
+use Rattle.frame.specs.Laws.{carried-le, length-of, too-short, cut-off, no-head, other-version, whole-code}
 use Rattle.frame_read.proofs.read_code.Statement.{statement}
 use Rattle.frame_read.proofs.read_code.Tie as tie
 
@@ -41,12 +40,11 @@ fault-told c =
     rw (kind-in (bytes c) (long c), desks-in (bytes c) (long c), desk-in (bytes c) (long c), cell-in (bytes c) (long c)) (c .fault .ensures)
 
 -- what is left to refuse: a length that is not what kind and desk count call for, and what they call for
-code-left : (c : tie.After-carries) → readCode (bytes (c .before .before))
-    ≡ 36 given not (eqb (lengthIn (bytes (c .before .before))) (lengthOf (messageIn (bytes (c .before .before)) .kind) (messageIn
-    (bytes (c .before .before)) .desks)))
+code-left : (c : tie.After-carries) → readCode (bytes (c .before .before)) ≡ firstOf ((36, wrongLength (bytes (c .before .before))) ∷ [])
 code-left c =
-    let told = fault-told (c .before .before) in
-    whole-code _ (whole (c .before .before .before .before .before .before .before)) ∙ none-first _ (sym told ∙ c .before .if5 .left)
+    let m = messageIn (bytes (c .before .before)) in
+    whole-code _ (whole (c .before .before .before .before .before .before .before))
+    ∙ first-more (faultsIn m) _ (fault-numbers m) (sym (fault-told (c .before .before)) ∙ c .before .if5 .left)
 
 length-called : (c : tie.After-carries)
     → (lengthOf (messageIn (bytes (c .before .before)) .kind) (messageIn (bytes
@@ -115,7 +113,7 @@ returns-5 : tie.Need-returns-5
 returns-5 c =
     let told = fault-told (c .before) in
     told ∙ sym (whole-code _ (whole (c .before .before .before .before .before .before))
-    ∙ first-refusal _ _ (λ e. c .if5 .taken (told ∙ e)))
+    ∙ first-some (faultsIn (messageIn (bytes (c .before)))) _ (λ e. c .if5 .taken (told ∙ e)))
 
 carries-requires : tie.Need-carries-requires
 carries-requires c κs = search needs
@@ -127,13 +125,13 @@ add-if6 : tie.Need-add-if6
 add-if6 c = omega (arith, length-called c .1)
 
 returns-6 : tie.Need-returns-6
-unfolding _given_
+unfolding firstOf
 returns-6 c =
     let told = length-told (c .before .before .before .before .before .before .before .before .before .before .before .before) in
     sym (code-left (c .before) ∙ rw (ne-eqb _ _ (λ e. c .if6 .taken (sym told ∙ e ∙ length-called (c .before) .0))))
 
 returns-7 : tie.Need-returns-7
-unfolding _given_
+unfolding firstOf
 returns-7 c =
     let told = length-told (c .before .before .before .before .before .before .before .before .before .before .before .before) in
     sym (code-left (c .before) ∙ rw (eq-eqb _ _ (told ∙ c .if6 .left ∙ sym (length-called (c .before) .0))))
