@@ -9,11 +9,11 @@ use Rattle.theory_lists.specs.Each.{mapAt}
 use Rattle.theory_lists.specs.Sum.{sum}
 use Rattle.theory_lists.specs.Test.{every}
 use Rattle.theory_refusals.specs.Refusals.{Line, firstOf, unless}
+use Rattle.spelling.specs.Bytes.{spell, numbers}
 use Rattle.desk.specs.declared.Message.{Message}
 use Rattle.desk.specs.Desk.{noMessage}
 use Rattle.frame.specs.declared.Reading.{Reading}
 use Rattle.frame.specs.declared.Written.{Written}
-use Rattle.frame.specs.Bytes.{spell, numbers}
 
 -- ---- the layout
 -- "version byte 1"

@@ -3,68 +3,34 @@
 use mathlib.Core.Path.{_≡_, refl, sym, ap, _∙_}
 use mathlib.Core.Bool.{Bool, true, false, not, _||_}
 use mathlib.Core.List.{List, [], _∷_, _++_}
-use Prim.Native.Nat.{ℕ, zero, suc, _+_, _*_, _<_, _≤_}
-use native.Mathlib.Numerals.{add-one}
+use Prim.Native.Nat.{ℕ, _+_, _*_, _<_, _≤_}
 use native.Mathlib.Omega.{arith}
 use lib.Dec.{ltb, eqb}
-use lib.ListN.{length, getD, take, drop, replicate, length-take, drop-of-length-le}
-use lib.Seq.{drop-cons, take-add, take-take}
+use lib.ListN.{length, getD, take, drop, length-take, drop-of-length-le}
+use lib.Seq.{take-add}
 use borrow.Author.Tests.{ltb-false, leb-false, eqb-true, lt-ltb, le-ltb, eq-eqb, ne-eqb, not-false}
 use Rattle.theory_lists.specs.Sum.{sum}
 use Rattle.theory_lists.specs.Test.{whichever}
 use Rattle.theory_refusals.specs.Refusals.{firstOf, numbersFrom, testOf, none-applies, first-some, first-more, first-none}
 use Rattle.theory_refusals.specs.Refusals.{unless-refused, unless-done}
+use Rattle.spelling.specs.Bytes.{numeral, followed, bytes, spell, numbers}
+use Rattle.spelling.specs.Places.{byte-in, part-take, sum-fours}
 use Rattle.desk.specs.declared.Message.{Message}
 use Rattle.desk.specs.Desk.{noMessage}
-use Rattle.frame.specs.Bytes.{numeral, followed, bytes, spell, numbers}
 use Rattle.frame.specs.Frame.{version, kinds, widths, carried, lengthOf, faultLines, faultOf, faultsIn, faultIn, messageOf}
 use Rattle.frame.specs.Frame.{lengthIn, versionIn, messageIn, wrongLength, readLines, readCode, readRule, rowOf, frameOf}
 use Rattle.frame.specs.Frame.{wellFormed, noRoom, writeLines, writeCode, writeRule, outputRule}
 
--- ---- bytes at their places
-pub next-byte : (w p q : ℕ) (s : List ℕ) → q ≡ p + 1 → p < length s → take (suc w) (drop p s) ≡ getD s p 0 ∷ take w (drop q s)
-next-byte w p q s e h = rw (drop-cons s p 0 h, e, add-one p)
-
-pub byte-in : (p : ℕ) (s : List ℕ) → p < length s → numeral (take 1 (drop p s)) ≡ getD s p 0
-unfolding followed
-byte-in p s h = rw (next-byte 0 p (p + 1) s refl h) (omega arith)
-
-pub four-in : (p : ℕ) (s : List ℕ) → p + 4 ≤ length s
-    → take 4 (drop p s) ≡ getD s p 0 ∷ getD s (p + 1) 0 ∷ getD s (p + 2) 0 ∷ getD s (p + 3) 0 ∷ []
-four-in p s h =
-    rw (
-      next-byte 3 p (p + 1) s refl (omega arith),
-      next-byte 2 (p + 1) (p + 2) s (omega arith) (omega arith),
-      next-byte 1 (p + 2) (p + 3) s (omega arith) (omega arith),
-      next-byte 0 (p + 3) (p + 4) s (omega arith) (omega arith),
-    )
-
--- a part of the frame is a part of the bytes that it starts
-pub part-take : (p w u : ℕ) (s : List ℕ) → p + w ≤ u → take w (drop p (take u s)) ≡ take w (drop p s)
-part-take zero w u s h = take-take w u s (omega arith)
-part-take (suc p) w zero s h = absurd (omega arith)
-part-take (suc p) w (suc u) [] h = refl
-part-take (suc p) w (suc u) (x ∷ s) h = part-take p w u s (omega arith)
-
+-- ---- numbers at their places
 pub framed-byte : (p u : ℕ) (s : List ℕ) → p < u → p < length s → numeral (take 1 (drop p (take u s))) ≡ getD s p 0
 framed-byte p u s h i = ap numeral (part-take p 1 u s (omega arith)) ∙ byte-in p s i
 
--- of the numbers that a frame carries the one at place k; there are c of them
-module _ (c k : ℕ) (s : List ℕ) where
-  pub number-there : k < c → 7 + 4 * c ≤ length s
-      → take 4 (drop (7 + 4 * k) (take (7 + 4 * c) s))
-      ≡ getD s (7 + 4 * k) 0 ∷ getD s (7 + 4 * k + 1) 0 ∷ getD s (7 + 4 * k + 2) 0 ∷ getD s (7 + 4 * k + 3) 0 ∷ []
-  number-there h room = part-take (7 + 4 * k) 4 (7 + 4 * c) s (omega arith) ∙ four-in (7 + 4 * k) s (omega arith)
-
-  pub number-past : c ≤ k → numeral (take 4 (drop (7 + 4 * k) (take (7 + 4 * c) s))) ≡ 0
-  unfolding followed
-  number-past h =
-      let past : length (take (7 + 4 * c) s) ≤ 7 + 4 * k = omega (arith, length-take (7 + 4 * c) s) in
-      rw (drop-of-length-le (take (7 + 4 * c) s) past)
-
-pub length-in : (s : List ℕ) → 2 ≤ length s → lengthIn s ≡ numeral (getD s 0 0 ∷ getD s 1 0 ∷ [])
-unfolding numbers
-length-in s h = rw (next-byte 1 0 1 s refl (omega arith), next-byte 0 1 2 s refl (omega arith))
+-- of the numbers that a frame carries there are c: the one at place k is 0 past them
+pub number-past : (c k : ℕ) (s : List ℕ) → c ≤ k → numeral (take 4 (drop (7 + 4 * k) (take (7 + 4 * c) s))) ≡ 0
+unfolding followed
+number-past c k s h =
+    let past : length (take (7 + 4 * c) s) ≤ 7 + 4 * k = omega (arith, length-take (7 + 4 * c) s) in
+    rw (drop-of-length-le (take (7 + 4 * c) s) past)
 
 module _ (s : List ℕ) (h : 7 ≤ length s) where
   pub version-in : versionIn s ≡ getD s 2 0
@@ -91,12 +57,6 @@ module _ (s : List ℕ) (h : 7 ≤ length s) where
 pub carried-le : (kind desks : ℕ) → carried kind desks ≤ 1 + desks
 unfolding carried
 carried-le kind desks = whichever (λ (n : ℕ). n ≤ 1 + desks) (eqb kind 1) 0 (1 + desks) (omega arith) (omega arith)
-
-pub sum-fours : (c n : ℕ) → c ≤ n → sum (take c (replicate n 4)) ≡ 4 * c
-unfolding sum
-sum-fours zero n h = refl
-sum-fours (suc c) zero h = absurd (omega arith)
-sum-fours (suc c) (suc n) h = omega (arith, sum-fours c n (omega arith))
 
 -- "So the length is 5 for kind 1 and 9 + 4 times the desk count otherwise."
 pub length-of : (kind desks : ℕ) → desks ≤ 8 → lengthOf kind desks ≡ 5 + 4 * carried kind desks

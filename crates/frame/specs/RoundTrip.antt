@@ -13,13 +13,14 @@ use Rattle.theory_lists.specs.Sum.{sum}
 use Rattle.theory_lists.specs.Test.{every-mapAt, mapAt-every}
 use Rattle.theory_refusals.specs.Refusals.{unless-either}
 use Rattle.clock.specs.Clock.{number}
+use Rattle.spelling.specs.Bytes.{numeral, spell, numbers, Bytes, Fitting, length-spell, numbers-spell, spell-numbers, bytes-part}
+use Rattle.spelling.specs.Places.{part-take, four-at}
 use Rattle.desk.specs.declared.Message.{Message}
 use Rattle.frame.specs.declared.Reading.{Reading}
 use Rattle.frame.specs.declared.Written.{Written}
-use Rattle.frame.specs.Bytes.{numeral, spell, numbers, Bytes, Fitting, length-spell, numbers-spell, spell-numbers, bytes-part}
 use Rattle.frame.specs.Frame.{version, widths, carried, parts, lengthOf, rowOf, messageOf, faultIn, rowIn, lengthIn, versionIn}
 use Rattle.frame.specs.Frame.{messageIn, readCode, readRule, carriedOrZero, wellFormed, frameOf, writeCode, writeRule, outputRule}
-use Rattle.frame.specs.Laws.{part-take, number-past, carried-le, length-of, Faultless, faultless, Whole, can-read, Accepted, accepted}
+use Rattle.frame.specs.Laws.{number-past, carried-le, length-of, Faultless, faultless, Whole, can-read, Accepted, accepted}
 use Rattle.frame.specs.Laws.{read-accepted, writable, can-write, write-accepted}
 
 -- every number of a message fits its width, as in code it always does
@@ -238,15 +239,6 @@ no-two-share a b after-a after-b oka okb e =
     ap (λ (r : Reading). r .message) (sym (read-frame a oka after-a) ∙ ap readRule e ∙ read-frame b okb after-b)
 
 -- ---- read, then written
--- of numbers that have four bytes each, the one at place k
-four-at : (n p k : ℕ) (s : List ℕ) → k < n → getD (numbers (replicate n 4) p s) k 0 ≡ numeral (take 4 (drop (p + 4 * k) s))
-unfolding numbers
-four-at zero p k s h = absurd (omega arith)
-four-at (suc n) p zero s h = let here : p ≡ p + 4 * 0 = omega arith in ap (λ (q : ℕ). numeral (take 4 (drop q s))) here
-four-at (suc n) p (suc k) s h =
-    let later : p + 4 + 4 * k ≡ p + 4 * suc k = omega arith in
-    four-at n (p + 4) k s (omega arith) ∙ ap (λ (q : ℕ). numeral (take 4 (drop q s))) later
-
 module _ (s : List ℕ) (e : readCode s ≡ 0) where
   abbrev there : Message
   there = messageIn (take (2 + lengthIn s) s)

@@ -23,7 +23,7 @@ use Rattle.table.specs.Sound.{cellZero, slotZero, rowZero, deskSound, tableSoun
 use Rattle.table.specs.Table.{recordOf, putBack}
 use Rattle.theory_lists.specs.Sum.{sum}
 use Rattle.desk.specs.declared.Message.{Message}
-use Rattle.frame.specs.Bytes.{bytes, followed, spell, numbers}
+use Rattle.spelling.specs.Bytes.{bytes, followed, spell, numbers}
 use Rattle.theory_refusals.specs.Refusals.{firstOf, unless as refusedOr}
 use Rattle.frame.specs.Frame.{carried, lengthOf, rowOf, messageOf, frameOf, faultLines, readLines, readRule}
 

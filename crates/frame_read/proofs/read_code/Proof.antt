@@ -8,21 +8,23 @@ use Prim.Native.Nat.{ℕ, _+_, _*_, _≤_}
 use lib.ListN.{length}
 use borrow.Author.Tests.{eq-eqb, ne-eqb}
 use Rattle.theory_refusals.specs.Refusals.{firstOf, first-some, first-more}
+use Rattle.spelling.specs.Bytes.{numbers}
 use Rattle.frame.specs.Frame.{carried, lengthIn, messageIn, faultsIn, faultIn, wrongLength, lengthOf, readCode}
-use Rattle.frame.specs.Laws.{Whole, Faultless, faultless, fault-numbers, length-in, version-in, kind-in, desks-in, desk-in, cell-in}
+use Rattle.frame.specs.Laws.{Whole, Faultless, faultless, fault-numbers, version-in, kind-in, desks-in, desk-in, cell-in}
 use Rattle.frame.specs.Laws.{carried-le, length-of, too-short, cut-off, no-head, other-version, whole-code}
 use Rattle.frame_read.proofs.read_code.Statement.{statement}
 use Rattle.frame_read.proofs.read_code.Tie as tie
 
 -- the bytes, as seen where the desk count and all before it has passed
 abbrev bytes : tie.After-fault → List ℕ
-bytes c = c .before .before .before .before .before .before .before .before .before .before .before .before .before .before .args .s .now
+bytes c = c .before .before .before .before .before .before .before .before .before .before .before .before .args .s .now
 
-length-told : (c : tie.After-two) → lengthIn (c .before .before .before .before .before .args .s .now) ≡ c .two .result
-length-told c = length-in _ (omega arith) ∙ sym (c .two .ensures)
+length-told : (c : tie.After-two-at) → lengthIn (c .before .before .before .args .s .now) ≡ c .two-at .result
+unfolding numbers
+length-told c = sym (c .two-at .ensures)
 
 -- the tests up to the version: a whole frame of ours
-whole : (c : tie.Else4) → Whole (c .before .before .before .before .before .before .before .before .before .args .s .now)
+whole : (c : tie.Else4) → Whole (c .before .before .before .before .before .before .before .args .s .now)
 whole c =
     let told = length-told (c .before .before .before .before) in
     record {
@@ -62,14 +64,8 @@ length-called c =
 returns : tie.Need-returns
 returns c = sym (too-short _ (c .if1 .taken))
 
-shared-slice-read-two : tie.Need-shared-slice-read-two
-shared-slice-read-two c = search needs
-
-shared-slice-read-two-2 : tie.Need-shared-slice-read-two-2
-shared-slice-read-two-2 c = search needs
-
-two-requires : tie.Need-two-requires
-two-requires c κs = search needs
+two-at-requires : tie.Need-two-at-requires
+two-at-requires c κs = search needs
 
 sub-if2 : tie.Need-sub-if2
 sub-if2 c = search needs
@@ -88,7 +84,7 @@ shared-slice-read-if4 c = search needs
 returns-4 : tie.Need-returns-4
 returns-4 c =
     let told = length-told (c .before .before .before .before) in
-    let version = version-in (c .before .before .before .before .before .before .before .before .before .args .s .now) (omega (
+    let version = version-in (c .before .before .before .before .before .before .before .args .s .now) (omega (
       arith,
       told,
     )) in
@@ -141,9 +137,7 @@ read-code-spec =
     tie.close
     (tie.spec
     returns
-    shared-slice-read-two
-    shared-slice-read-two-2
-    two-requires
+    two-at-requires
     sub-if2
     returns-2
     returns-3

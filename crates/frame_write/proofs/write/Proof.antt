@@ -7,7 +7,7 @@ use mathlib.Core.List.{List, _++_}
 use Prim.Native.Nat.{ℕ, _+_, _*_, _≤_}
 use lib.ListN.{length, drop}
 use Rattle.desk.specs.declared.Message.{Message}
-use Rattle.frame.specs.Bytes.{bytes, spell, put, put-next}
+use Rattle.spelling.specs.Bytes.{bytes, spell, put, put-next}
 use Rattle.frame.specs.Frame.{carried, lengthOf, frameOf}
 use Rattle.frame.specs.Laws.{Writable, writable, headOf, bodyOf, carried-le, length-of, frame-split, write-refused, write-accepted}
 use Rattle.frame_write.proofs.write.Statement.{statement}
