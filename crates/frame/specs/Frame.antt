@@ -120,9 +120,11 @@ wellFormed m = every (mapAt (carriedOrZero (carried (m .kind) (m .desks))) (m .w
 unfoldable pub frameOf : Message → List ℕ
 frameOf m = spell (take (parts (m .kind) (m .desks)) widths) (rowOf m)
 
+-- "output too short"
 abbrev pub noRoom : Message → ℕ → Bool
 noRoom m room = ltb room (2 + lengthOf (m .kind) (m .desks))
 
+-- "32, 33, 34, 35, then 38 …, then 37"
 unfoldable pub writeLines : Message → ℕ → List Line
 writeLines m room = faultsIn m ++ (38, not (wellFormed m)) ∷ (37, noRoom m room) ∷ []
 

@@ -5,7 +5,7 @@ use mathlib.Core.Bool.{Bool, true, false, not, _||_}
 use mathlib.Core.List.{List, [], _∷_, _++_}
 use Prim.Native.Nat.{ℕ, _+_, _*_, _<_, _≤_}
 use native.Mathlib.Omega.{arith}
-use lib.Dec.{ltb, eqb}
+use lib.Dec.{eqb}
 use lib.ListN.{length, getD, take, drop, length-take, drop-of-length-le}
 use lib.Seq.{take-add}
 use borrow.Author.Tests.{ltb-false, leb-false, eqb-true, lt-ltb, le-ltb, eq-eqb, ne-eqb, not-false}
@@ -93,6 +93,13 @@ faultless kind desks desk cell e =
       cell-to = ltb-false _ _ (no 35);
     }
 
+-- how much such a frame carries, and how long it is
+pub called : {kind desks desk cell c : ℕ} → Faultless kind desks desk cell → c ≡ carried kind desks
+    → (lengthOf kind desks ≡ 5 + 4 * c) × (c ≤ 9)
+called {kind} {desks} known e =
+    (omega (arith, length-of kind desks (known .desks-to)), omega (arith, carried-le kind desks, known .desks-to))
+
+-- no number of theirs is 0
 pub fault-numbers : (m : Message) → numbersFrom 1 (faultsIn m) ≡ true
 unfolding faultLines numbersFrom
 fault-numbers m = refl
@@ -138,19 +145,23 @@ pub record Accepted (s : List ℕ) : Type 0 where
   pub known : Faultless (messageIn s .kind) (messageIn s .desks) (messageIn s .desk) (messageIn s .cell)
   pub fitting : lengthIn s ≡ 5 + 4 * carried (messageIn s .kind) (messageIn s .desks)
 
-pub accepted : (s : List ℕ) → readCode s ≡ 0 → Accepted s
+accepted-whole : (s : List ℕ) → readCode s ≡ 0 → Whole s
 unfolding readLines faultLines numbersFrom testOf
-accepted s e =
+accepted-whole s e =
     let no = none-applies (readLines s) refl e in
     let there = neither _ _ (no 30) in
-    let whole : Whole s =
     record {
       begun = ltb-false _ _ (there .0);
       there = ltb-false _ _ (there .1);
       headed = ltb-false _ _ (no 36);
       ours = eqb-true _ _ (not-false _ (no 31));
-    } in
-    let left = first-none (faultsIn (messageIn s)) ((36, wrongLength s) ∷ []) refl (sym (whole-code s whole) ∙ e) in
+    }
+
+pub accepted : (s : List ℕ) → readCode s ≡ 0 → Accepted s
+unfolding numbersFrom testOf
+accepted s e =
+    let whole = accepted-whole s e in
+    let left = first-none (faultsIn (messageIn s)) ((36, wrongLength s) ∷ []) (fault-numbers (messageIn s)) (sym (whole-code s whole) ∙ e) in
     let known = faultless _ _ _ _ (left .0) in
     let fits = none-applies ((36, wrongLength s) ∷ []) refl (left .1) 36 in
     record {

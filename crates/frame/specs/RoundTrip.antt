@@ -11,7 +11,7 @@ use lib.Seq.{take-at, take-add, take-take, length-take-le}
 use borrow.Author.Tests.{lt-ltb, le-ltb, eqb-true}
 use Rattle.theory_lists.specs.Sum.{sum}
 use Rattle.theory_lists.specs.Test.{every-mapAt, mapAt-every}
-use Rattle.theory_refusals.specs.Refusals.{unless-either}
+use Rattle.theory_refusals.specs.Refusals.{unless-none}
 use Rattle.clock.specs.Clock.{number}
 use Rattle.spelling.specs.Bytes.{numeral, spell, numbers, Bytes, Fitting, length-spell, numbers-spell, spell-numbers, bytes-part}
 use Rattle.spelling.specs.Places.{part-take, four-at}
@@ -20,7 +20,7 @@ use Rattle.frame.specs.declared.Reading.{Reading}
 use Rattle.frame.specs.declared.Written.{Written}
 use Rattle.frame.specs.Frame.{version, widths, carried, parts, lengthOf, rowOf, messageOf, faultIn, rowIn, lengthIn, versionIn}
 use Rattle.frame.specs.Frame.{messageIn, readCode, readRule, carriedOrZero, wellFormed, frameOf, writeCode, writeRule, outputRule}
-use Rattle.frame.specs.Laws.{number-past, carried-le, length-of, Faultless, faultless, Whole, can-read, Accepted, accepted}
+use Rattle.frame.specs.Laws.{number-past, length-of, Faultless, faultless, called, Whole, can-read, Accepted, accepted}
 use Rattle.frame.specs.Laws.{read-accepted, writable, can-write, write-accepted}
 
 -- every number of a message fits its width, as in code it always does
@@ -48,30 +48,26 @@ counted : (kind desks : ℕ) → sum (take (parts kind desks) widths) ≡ 2 + le
 unfolding lengthOf sum
 counted kind desks = rw (take-add 6 (carried kind desks) widths)
 
+-- code 0 is told only where nothing is refused
 read-told : (s : List ℕ) → readRule s .code ≡ 0 → readCode s ≡ 0
 unfolding readRule
-read-told s = unless-either (readCode s) _ _ (λ (r : Reading). r .code ≡ 0 → readCode s ≡ 0) (λ some told. told) (λ none told. none)
+read-told s = unless-none (readCode s) _ _ (λ (r : Reading). r .code) refl
 
 write-told : (m : Message) (out : List ℕ) → writeRule m out .code ≡ 0 → writeCode m (length out) ≡ 0
 unfolding writeRule
-write-told m out =
-    unless-either (writeCode m (length out)) _ _ (λ (w : Written). w .code ≡ 0 → writeCode m (length out) ≡ 0)
-    (λ some told. told) (λ none told. none)
+write-told m out = unless-none (writeCode m (length out)) _ _ (λ (w : Written). w .code) refl
 
 -- ---- the row of such a message
 module _ (m : Message) (ok : Sendable m) where
   known : Faultless (m .kind) (m .desks) (m .desk) (m .cell)
   known = faultless _ _ _ _ (ok .no-fault)
 
-  few : carried (m .kind) (m .desks) ≤ 9
-  few = omega (arith, carried-le (m .kind) (m .desks), known .desks-to)
-
   row-fits : Fitting widths (rowOf m)
   unfolding rowOf
   row-fits = record { as-many = omega (arith, ok .sized .eight); each = each }
     where
       each : (k : ℕ) → getD (rowOf m) k 0 < 256 ^ getD widths k 0
-      each zero = omega (arith, length-of (m .kind) (m .desks) (known .desks-to), few)
+      each zero = omega (arith, called known refl)
       each (suc zero) = omega arith
       each (suc (suc zero)) = omega (arith, known .kind-to)
       each (suc (suc (suc zero))) = omega (arith, known .desks-to)
@@ -160,7 +156,7 @@ module _ (m : Message) (ok : Sendable m) where
     first = take-at (frameOf m) rest (2 + lengthOf (m .kind) (m .desks)) (frame-length m ok)
 
     headed : 5 ≤ lengthOf (m .kind) (m .desks)
-    headed = omega (arith, length-of (m .kind) (m .desks) (known m ok .desks-to))
+    headed = omega (arith, called (known m ok) refl)
 
     length-back : lengthIn (frameOf m ++ rest) ≡ lengthOf (m .kind) (m .desks)
     unfolding rowOf

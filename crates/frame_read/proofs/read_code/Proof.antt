@@ -9,9 +9,9 @@ use lib.ListN.{length}
 use borrow.Author.Tests.{eq-eqb, ne-eqb}
 use Rattle.theory_refusals.specs.Refusals.{firstOf, first-some, first-more}
 use Rattle.spelling.specs.Bytes.{numbers}
-use Rattle.frame.specs.Frame.{carried, lengthIn, messageIn, faultsIn, faultIn, wrongLength, lengthOf, readCode}
-use Rattle.frame.specs.Laws.{Whole, Faultless, faultless, fault-numbers, version-in, kind-in, desks-in, desk-in, cell-in}
-use Rattle.frame.specs.Laws.{carried-le, length-of, too-short, cut-off, no-head, other-version, whole-code}
+use Rattle.frame.specs.Frame.{lengthIn, messageIn, faultsIn, faultIn, wrongLength, lengthOf, readCode}
+use Rattle.frame.specs.Laws.{Whole, faultless, called, fault-numbers, version-in, kind-in, desks-in, desk-in, cell-in}
+use Rattle.frame.specs.Laws.{too-short, cut-off, no-head, other-version, whole-code}
 use Rattle.frame_read.proofs.read_code.Statement.{statement}
 use Rattle.frame_read.proofs.read_code.Tie as tie
 
@@ -54,12 +54,8 @@ length-called : (c : tie.After-carries)
 length-called c =
     let s = bytes (c .before .before) in
     let h = long (c .before .before) in
-    let kind = messageIn s .kind in
-    let desks = messageIn s .desks in
-    let known : Faultless kind desks (messageIn s .desk) (messageIn s .cell) = faultless _ _ _ _ (sym (fault-told
-    (c .before .before)) ∙ c .before .if5 .left) in
-    let carries : c .carries .result ≡ carried kind desks = rw (kind-in s h, desks-in s h) (c .carries .ensures) in
-    (omega (arith, length-of kind desks (known .desks-to), carries), omega (arith, carried-le kind desks, carries, known .desks-to))
+    let known = faultless _ _ _ _ (sym (fault-told (c .before .before)) ∙ c .before .if5 .left) in
+    called known (rw (kind-in s h, desks-in s h) (c .carries .ensures))
 
 returns : tie.Need-returns
 returns c = sym (too-short _ (c .if1 .taken))
