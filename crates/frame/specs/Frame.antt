@@ -1,30 +1,19 @@
 -- Frames, in the words of 01. A frame is a row of numbers as bytes. Reading and writing go by the same row and the same widths.
 -- Assumes nothing.
-use mathlib.Core.Bool.{Bool, true, false, not, _||_}
-use mathlib.Core.List.{List, _∷_, _++_}
-use Prim.Native.Nat.{ℕ, zero, suc, _+_}
+use mathlib.Core.Bool.{Bool, not, _||_, cond}
+use mathlib.Core.List.{List, [], _∷_, _++_}
+use Prim.Native.Nat.{ℕ, _+_}
 use lib.Dec.{leb, ltb, eqb}
 use lib.ListN.{length, getD, take, drop, replicate}
 use Rattle.theory_lists.specs.Each.{mapAt}
 use Rattle.theory_lists.specs.Sum.{sum}
 use Rattle.theory_lists.specs.Test.{every}
+use Rattle.theory_refusals.specs.Refusals.{Line, firstOf, unless}
+use Rattle.spelling.specs.Bytes.{spell, numbers}
 use Rattle.desk.specs.declared.Message.{Message}
 use Rattle.desk.specs.Desk.{noMessage}
 use Rattle.frame.specs.declared.Reading.{Reading}
 use Rattle.frame.specs.declared.Written.{Written}
-use Rattle.frame.specs.Bytes.{spell, numbers}
-
-infix 55 _given_
-infixr 52 _orElse_
--- n where the test holds, else 0
-unfoldable pub _given_ : ℕ → Bool → ℕ
-n given true = n
-n given false = 0
-
--- the first that is not 0
-unfoldable pub _orElse_ : ℕ → ℕ → ℕ
-zero orElse b = b
-suc a orElse b = suc a
 
 -- ---- the layout
 -- "version byte 1"
@@ -42,7 +31,7 @@ widths = 2 ∷ 1 ∷ 1 ∷ 1 ∷ 1 ∷ 1 ∷ 4 ∷ replicate 8 4
 
 -- how many a frame carries of the word and the clock's numbers, and of all its numbers
 unfoldable pub carried : ℕ → ℕ → ℕ
-carried kind desks = 1 + desks given not (eqb kind 1)
+carried kind desks = cond (eqb kind 1) 0 (1 + desks)
 
 abbrev pub parts : ℕ → ℕ → ℕ
 parts kind desks = 6 + carried kind desks
@@ -68,15 +57,22 @@ messageOf ns =
 
 -- ---- what reading and writing refuse alike
 -- "32 kind; 33 desk count not 2 to 8; 34 asking desk not below it; 35 cell above 31"
-unfoldable pub faultOf : ℕ → ℕ → ℕ → ℕ → ℕ
-faultOf kind desks desk cell =
-    32 given (ltb kind 1 || ltb kinds kind)
-    orElse 33 given (ltb desks 2 || ltb 8 desks)
-    orElse 34 given leb desks desk
-    orElse 35 given ltb 31 cell
+unfoldable pub faultLines : ℕ → ℕ → ℕ → ℕ → List Line
+faultLines kind desks desk cell =
+    (32, ltb kind 1 || ltb kinds kind)
+    ∷ (33, ltb desks 2 || ltb 8 desks)
+    ∷ (34, leb desks desk)
+    ∷ (35, ltb 31 cell)
+    ∷ []
+
+abbrev pub faultOf : ℕ → ℕ → ℕ → ℕ → ℕ
+faultOf kind desks desk cell = firstOf (faultLines kind desks desk cell)
+
+abbrev pub faultsIn : Message → List Line
+faultsIn m = faultLines (m .kind) (m .desks) (m .desk) (m .cell)
 
 abbrev pub faultIn : Message → ℕ
-faultIn m = faultOf (m .kind) (m .desks) (m .desk) (m .cell)
+faultIn m = firstOf (faultsIn m)
 
 -- ---- reading
 abbrev pub rowIn : List ℕ → List ℕ
@@ -91,22 +87,27 @@ versionIn s = getD (rowIn s) 1 0
 abbrev pub messageIn : List ℕ → Message
 messageIn s = messageOf (rowIn s)
 
-unfoldable pub readCode : List ℕ → ℕ
-readCode s =
-    30 given ltb (length s) 2
-    orElse 30 given ltb (length s) (2 + lengthIn s)
-    orElse 36 given ltb (lengthIn s) 5
-    orElse 31 given not (eqb (versionIn s) version)
-    orElse faultIn (messageIn s)
-    orElse 36 given not (eqb (lengthIn s) (lengthOf (messageIn s .kind) (messageIn s .desks)))
+-- "length wrong for kind and count"
+abbrev pub wrongLength : List ℕ → Bool
+wrongLength s = not (eqb (lengthIn s) (lengthOf (messageIn s .kind) (messageIn s .desks)))
+
+-- "30 fewer than 2 bytes, or fewer than 2 + length; 36 length below 5; 31 version; … 36 length wrong for kind and count"
+unfoldable pub readLines : List ℕ → List Line
+readLines s =
+    (30, ltb (length s) 2 || ltb (length s) (2 + lengthIn s))
+    ∷ (36, ltb (lengthIn s) 5)
+    ∷ (31, not (eqb (versionIn s) version))
+    ∷ faultsIn (messageIn s)
+    ++ (36, wrongLength s) ∷ []
+
+abbrev pub readCode : List ℕ → ℕ
+readCode s = firstOf (readLines s)
 
 -- what lies past the frame is not looked at: it is no part of the message
-unfoldable pub readWith : ℕ → List ℕ → Reading
-readWith zero s = record { code = 0; message = messageIn (take (2 + lengthIn s) s); used = 2 + lengthIn s }
-readWith (suc c) s = record { code = suc c; message = noMessage; used = 0 }
-
 unfoldable pub readRule : List ℕ → Reading
-readRule s = readWith (readCode s) s
+readRule s =
+    unless (readCode s) (λ code. record { code = code; message = noMessage; used = 0 })
+    record { code = 0; message = messageIn (take (2 + lengthIn s) s); used = 2 + lengthIn s }
 
 -- ---- writing
 -- "a clock number past the count, or a word or clock in kind 1, not 0; with none of these it is well formed": what is not carried is 0
@@ -119,23 +120,24 @@ wellFormed m = every (mapAt (carriedOrZero (carried (m .kind) (m .desks))) (m .w
 unfoldable pub frameOf : Message → List ℕ
 frameOf m = spell (take (parts (m .kind) (m .desks)) widths) (rowOf m)
 
-unfoldable pub writeCode : Message → ℕ → ℕ
-writeCode m room =
-    faultIn m
-    orElse 38 given not (wellFormed m)
-    orElse 37 given ltb room (2 + lengthOf (m .kind) (m .desks))
+-- "output too short"
+abbrev pub noRoom : Message → ℕ → Bool
+noRoom m room = ltb room (2 + lengthOf (m .kind) (m .desks))
+
+-- "32, 33, 34, 35, then 38 …, then 37"
+unfoldable pub writeLines : Message → ℕ → List Line
+writeLines m room = faultsIn m ++ (38, not (wellFormed m)) ∷ (37, noRoom m room) ∷ []
+
+abbrev pub writeCode : Message → ℕ → ℕ
+writeCode m room = firstOf (writeLines m room)
 
 -- the reply, and the output afterwards: nothing past the frame changes, and a refusal changes nothing
-unfoldable pub writtenWith : ℕ → Message → Written
-writtenWith zero m = record { code = 0; used = 2 + lengthOf (m .kind) (m .desks) }
-writtenWith (suc c) m = record { code = suc c; used = 0 }
-
-unfoldable pub outputWith : ℕ → Message → List ℕ → List ℕ
-outputWith zero m out = frameOf m ++ drop (2 + lengthOf (m .kind) (m .desks)) out
-outputWith (suc c) m out = out
-
 unfoldable pub writeRule : Message → List ℕ → Written
-writeRule m out = writtenWith (writeCode m (length out)) m
+writeRule m out =
+    unless (writeCode m (length out)) (λ code. record { code = code; used = 0 })
+    record { code = 0; used = 2 + lengthOf (m .kind) (m .desks) }
 
 unfoldable pub outputRule : Message → List ℕ → List ℕ
-outputRule m out = outputWith (writeCode m (length out)) m out
+outputRule m out =
+    unless (writeCode m (length out)) (λ _. out)
+    (frameOf m ++ drop (2 + lengthOf (m .kind) (m .desks)) out)

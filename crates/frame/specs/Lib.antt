@@ -1,4 +1,3 @@
-pub mod Bytes
 pub mod Frame
 pub mod Laws
 pub mod RoundTrip

@@ -11,15 +11,16 @@ use lib.Seq.{take-at, take-add, take-take, length-take-le}
 use borrow.Author.Tests.{lt-ltb, le-ltb, eqb-true}
 use Rattle.theory_lists.specs.Sum.{sum}
 use Rattle.theory_lists.specs.Test.{every-mapAt, mapAt-every}
+use Rattle.theory_refusals.specs.Refusals.{unless-none}
 use Rattle.clock.specs.Clock.{number}
+use Rattle.spelling.specs.Bytes.{numeral, spell, numbers, Bytes, Fitting, length-spell, numbers-spell, spell-numbers, bytes-part}
+use Rattle.spelling.specs.Places.{part-take, four-at}
 use Rattle.desk.specs.declared.Message.{Message}
 use Rattle.frame.specs.declared.Reading.{Reading}
 use Rattle.frame.specs.declared.Written.{Written}
-use Rattle.frame.specs.Bytes.{numeral, spell, numbers, Bytes, Fitting, length-spell, numbers-spell, spell-numbers, bytes-part}
 use Rattle.frame.specs.Frame.{version, widths, carried, parts, lengthOf, rowOf, messageOf, faultIn, rowIn, lengthIn, versionIn}
-use Rattle.frame.specs.Frame.{messageIn, readCode, readWith, readRule, carriedOrZero, wellFormed, frameOf, writeCode, writtenWith}
-use Rattle.frame.specs.Frame.{writeRule, outputRule}
-use Rattle.frame.specs.Laws.{part-take, number-past, carried-le, length-of, Faultless, faultless, Whole, can-read, Accepted, accepted}
+use Rattle.frame.specs.Frame.{messageIn, readCode, readRule, carriedOrZero, wellFormed, frameOf, writeCode, writeRule, outputRule}
+use Rattle.frame.specs.Laws.{number-past, length-of, Faultless, faultless, called, Whole, can-read, Accepted, accepted}
 use Rattle.frame.specs.Laws.{read-accepted, writable, can-write, write-accepted}
 
 -- every number of a message fits its width, as in code it always does
@@ -47,34 +48,26 @@ counted : (kind desks : ℕ) → sum (take (parts kind desks) widths) ≡ 2 + le
 unfolding lengthOf sum
 counted kind desks = rw (take-add 6 (carried kind desks) widths)
 
-read-code-told : (c : ℕ) (s : List ℕ) → readWith c s .code ≡ c
-unfolding readWith
-read-code-told zero s = refl
-read-code-told (suc c) s = refl
-
+-- code 0 is told only where nothing is refused
 read-told : (s : List ℕ) → readRule s .code ≡ 0 → readCode s ≡ 0
 unfolding readRule
-read-told s e = sym (read-code-told (readCode s) s) ∙ e
+read-told s = unless-none (readCode s) _ _ (λ (r : Reading). r .code) refl
 
-code-told : (c : ℕ) (m : Message) → writtenWith c m .code ≡ c
-unfolding writtenWith
-code-told zero m = refl
-code-told (suc c) m = refl
+write-told : (m : Message) (out : List ℕ) → writeRule m out .code ≡ 0 → writeCode m (length out) ≡ 0
+unfolding writeRule
+write-told m out = unless-none (writeCode m (length out)) _ _ (λ (w : Written). w .code) refl
 
 -- ---- the row of such a message
 module _ (m : Message) (ok : Sendable m) where
   known : Faultless (m .kind) (m .desks) (m .desk) (m .cell)
   known = faultless _ _ _ _ (ok .no-fault)
 
-  few : carried (m .kind) (m .desks) ≤ 9
-  few = omega (arith, carried-le (m .kind) (m .desks), known .desks-to)
-
   row-fits : Fitting widths (rowOf m)
   unfolding rowOf
   row-fits = record { as-many = omega (arith, ok .sized .eight); each = each }
     where
       each : (k : ℕ) → getD (rowOf m) k 0 < 256 ^ getD widths k 0
-      each zero = omega (arith, length-of (m .kind) (m .desks) (known .desks-to), few)
+      each zero = omega (arith, called known refl)
       each (suc zero) = omega arith
       each (suc (suc zero)) = omega (arith, known .kind-to)
       each (suc (suc (suc zero))) = omega (arith, known .desks-to)
@@ -163,7 +156,7 @@ module _ (m : Message) (ok : Sendable m) where
     first = take-at (frameOf m) rest (2 + lengthOf (m .kind) (m .desks)) (frame-length m ok)
 
     headed : 5 ≤ lengthOf (m .kind) (m .desks)
-    headed = omega (arith, length-of (m .kind) (m .desks) (known m ok .desks-to))
+    headed = omega (arith, called (known m ok) refl)
 
     length-back : lengthIn (frameOf m ++ rest) ≡ lengthOf (m .kind) (m .desks)
     unfolding rowOf
@@ -226,9 +219,8 @@ module _ (m : Message) (ok : Sendable m) where
 -- writing into enough room and reading it back, with any bytes after it, gives that message and the same count
 pub write-then-read : (m : Message) (out : List ℕ) → Sized m → writeRule m out .code ≡ 0
     → readRule (outputRule m out) ≡ record { code = 0; message = m; used = writeRule m out .used }
-unfolding writeRule
 write-then-read m out sized e =
-    let told : writeCode m (length out) ≡ 0 = sym (code-told (writeCode m (length out)) m) ∙ e in
+    let told = write-told m out e in
     let w = writable m (length out) told in
     let ok : Sendable m = record { no-fault = w .no-fault; clean = w .clean; sized = sized } in
     let done = write-accepted m out told in
@@ -243,15 +235,6 @@ no-two-share a b after-a after-b oka okb e =
     ap (λ (r : Reading). r .message) (sym (read-frame a oka after-a) ∙ ap readRule e ∙ read-frame b okb after-b)
 
 -- ---- read, then written
--- of numbers that have four bytes each, the one at place k
-four-at : (n p k : ℕ) (s : List ℕ) → k < n → getD (numbers (replicate n 4) p s) k 0 ≡ numeral (take 4 (drop (p + 4 * k) s))
-unfolding numbers
-four-at zero p k s h = absurd (omega arith)
-four-at (suc n) p zero s h = let here : p ≡ p + 4 * 0 = omega arith in ap (λ (q : ℕ). numeral (take 4 (drop q s))) here
-four-at (suc n) p (suc k) s h =
-    let later : p + 4 + 4 * k ≡ p + 4 * suc k = omega arith in
-    four-at n (p + 4) k s (omega arith) ∙ ap (λ (q : ℕ). numeral (take 4 (drop q s))) later
-
 module _ (s : List ℕ) (e : readCode s ≡ 0) where
   abbrev there : Message
   there = messageIn (take (2 + lengthIn s) s)

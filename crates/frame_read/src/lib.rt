@@ -1,15 +1,16 @@
 // Reading a frame: the message that a row of bytes starts with.
 ghost use mathlib.Core.Path.{_≡_};
-ghost use mathlib.Core.List.{[], _∷_};
 ghost use Prim.Native.Nat.{_+_, _*_, _≤_};
 ghost use lib.ListN.{length, take, drop};
-ghost use Rattle.frame.specs.Bytes.{numeral};
+ghost use Rattle.spelling.specs.Bytes.{numeral};
 ghost use Rattle.frame.specs.Frame.{messageIn, readCode, readRule};
 use clock::Clock;
 use desk::Message;
 use frame::Reading;
 use frame::carries;
 use frame::fault;
+use spelling::four_at;
+use spelling::two_at;
 
 // The message whose frame the bytes start with. What follows the frame is another's.
 pub fn read(s: &[u8]) -> Reading
@@ -37,7 +38,7 @@ fn read_code(s: &[u8]) -> u32
     if s.len() < 2 {
         return 30;
     }
-    let size = two(s[0], s[1]);
+    let size = two_at(s, 0);
     if s.len() - 2 < size {
         return 30;
     }
@@ -92,18 +93,5 @@ fn number(s: &[u8], c: usize, k: usize) -> u32
     if c <= k {
         return 0;
     }
-    let at = 7 + 4 * k;
-    four(s[at], s[at + 1], s[at + 2], s[at + 3])
-}
-
-fn two(a: u8, b: u8) -> usize
-    ensures { λ r. ⌜ r ≡ numeral (a ∷ b ∷ []) ⌝ }
-{
-    a as usize * 256 + b as usize
-}
-
-fn four(a: u8, b: u8, c: u8, d: u8) -> u32
-    ensures { λ r. ⌜ r ≡ numeral (a ∷ b ∷ c ∷ d ∷ []) ⌝ }
-{
-    ((a as u32 * 256 + b as u32) * 256 + c as u32) * 256 + d as u32
+    four_at(s, 7 + 4 * k)
 }

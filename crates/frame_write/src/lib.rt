@@ -5,7 +5,7 @@ ghost use Prim.Native.Nat.{_+_, _*_, _≤_};
 ghost use lib.ListN.{length, take, drop};
 ghost use Rattle.theory_lists.specs.Each.{mapAt};
 ghost use Rattle.theory_lists.specs.Test.{every};
-ghost use Rattle.frame.specs.Bytes.{bytes, spell, put};
+ghost use Rattle.spelling.specs.Bytes.{spell, put};
 ghost use Rattle.frame.specs.Frame.{widths, carriedOrZero, writeCode, writeRule, outputRule};
 ghost use Rattle.frame.specs.Laws.{headOf};
 use clock::Clock;
@@ -13,6 +13,9 @@ use desk::Message;
 use frame::Written;
 use frame::carries;
 use frame::fault;
+use spelling::put_four;
+use spelling::put_fours;
+use spelling::put_two;
 
 // The frame of a message, at the start of the output. A refusal leaves every byte as it was.
 pub fn write(m: Message, out: &mut [u8]) -> Written
@@ -67,8 +70,7 @@ fn put_head(out: &mut [u8], size: usize, kind: u8, desks: u8, desk: u8, cell: u8
     requires { ⌜ 7 ≤ length (now out) ⌝ }
     ensures { λ _. ⌜ now (out .exit) ≡ headOf size kind desks desk cell ++ drop 7 (now (out .entry)) ⌝ }
 {
-    out[0] = (size / 256 % 256) as u8;
-    out[1] = (size % 256) as u8;
+    put_two(out, 0, size);
     out[2] = 1;
     out[3] = kind;
     out[4] = desks;
@@ -84,25 +86,7 @@ fn put_numbers(out: &mut [u8], word: u32, clock: Clock, c: usize)
     if c == 0 {
         return;
     }
-    put_number(out, 7, word);
-    put_clock(out, clock, c - 1);
-}
-
-fn put_clock(out: &mut [u8], clock: Clock, desks: usize)
-    requires { ⌜ (desks ≤ 8) × (11 + 4 * desks ≤ length (now out)) ⌝ }
-    ensures { λ _. ⌜ now (out .exit) ≡ put 11 (spell (take desks (drop 7 widths)) (clock .n)) (4 * desks) (now (out .entry)) ⌝ }
-{
-    for k in 0..desks {
-        put_number(out, 11 + 4 * k, clock.n[k]);
-    }
-}
-
-fn put_number(out: &mut [u8], at: usize, x: u32)
-    requires { ⌜ at + 4 ≤ length (now out) ⌝ }
-    ensures { λ _. ⌜ now (out .exit) ≡ put at (bytes 4 x) 4 (now (out .entry)) ⌝ }
-{
-    out[at] = (x / 256 / 256 / 256 % 256) as u8;
-    out[at + 1] = (x / 256 / 256 % 256) as u8;
-    out[at + 2] = (x / 256 % 256) as u8;
-    out[at + 3] = (x % 256) as u8;
+    put_four(out, 7, word);
+    let ns = clock.n;
+    put_fours(out, 11, ns, c - 1);
 }

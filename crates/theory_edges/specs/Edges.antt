@@ -23,8 +23,9 @@ use Rattle.table.specs.Sound.{cellZero, slotZero, rowZero, deskSound, tableSoun
 use Rattle.table.specs.Table.{recordOf, putBack}
 use Rattle.theory_lists.specs.Sum.{sum}
 use Rattle.desk.specs.declared.Message.{Message}
-use Rattle.frame.specs.Bytes.{bytes, followed, spell, numbers}
-use Rattle.frame.specs.Frame.{_given_, _orElse_, carried, lengthOf, rowOf, messageOf, frameOf, faultOf, readCode, readWith, readRule}
+use Rattle.spelling.specs.Bytes.{bytes, followed, spell, numbers}
+use Rattle.theory_refusals.specs.Refusals.{firstOf, unless as refusedOr}
+use Rattle.frame.specs.Frame.{carried, lengthOf, rowOf, messageOf, frameOf, faultLines, readLines, readRule}
 
 -- a clock by its first numbers; the others are 0
 abbrev clock : List ℕ → Clock
@@ -93,6 +94,6 @@ unfolding edges Hold merged isBefore paired every some sum mapAt isWithin raised
     setUpRule answerSetUp setUpRefusal keepersRight freshTable freshTray run replies
     eventRule unless refusal isOwn isAsked isAnswered done ownRule outcome eventDone readHeld writeRule isBlank keeps waits recordOf putBack
     tableSound deskSound rowSound rowZero traySound keeperSound cellsSound cellSound slotSound slotNames slotCarries cellZero slotZero
-    bytes followed spell numbers _given_ _orElse_ carried lengthOf rowOf messageOf frameOf faultOf readCode readWith readRule
+    bytes followed spell numbers firstOf refusedOr carried lengthOf rowOf messageOf frameOf faultLines readLines readRule
 edges-hold =
     (refl, (refl, (refl, ((refl, refl), (refl, (refl, (refl, ((refl, refl), (refl, ((refl, refl), ((refl, refl), (refl, tt))))))))))))

@@ -1,6 +1,6 @@
 -- Refusals: lines of a number and a test, in the order of 01's table. The first line that applies refuses; where none does, it is done.
 -- Assumes nothing.
-use mathlib.Core.Path.{_≡_, refl, _∙_}
+use mathlib.Core.Path.{_≡_, refl, sym, _∙_}
 use mathlib.Core.Bool.{Bool, true, false, _&&_, cond}
 use mathlib.Core.List.{List, [], _∷_, _++_}
 use mathlib.Core.Logic.{_⊎_, inl, inr}
@@ -70,6 +70,12 @@ first-more [] more from none = refl
 first-more ((number, true) ∷ ls) more from none = absurd (omega (arith, leb-true 1 number (both-left (leb 1 number) (numbersFrom 1 ls) from)))
 first-more ((number, false) ∷ ls) more from none = first-more ls more (both-right (leb 1 number) (numbersFrom 1 ls) from) none
 
+pub first-none : (ls more : List Line) → numbersFrom 1 ls ≡ true → firstOf (ls ++ more) ≡ 0 → (firstOf ls ≡ 0) × (firstOf more ≡ 0)
+unfolding firstOf numbersFrom
+first-none [] more from e = (refl, e)
+first-none ((number, true) ∷ ls) more from e = absurd (omega (arith, leb-true 1 number (both-left (leb 1 number) (numbersFrom 1 ls) from)))
+first-none ((number, false) ∷ ls) more from e = first-none ls more (both-right (leb 1 number) (numbersFrom 1 ls) from) e
+
 -- ---- refused, or done
 module _ {A : Type 0} (n : ℕ) (refused : ℕ → A) (done : A) where
   pub unless-refused : (n ≡ 0 → ⊥) → unless n refused done ≡ refused n
@@ -92,3 +98,7 @@ module _ {A : Type 0} (n : ℕ) (refused : ℕ → A) (done : A) where
       go : (k : ℕ) → ((k ≡ 0 → ⊥) → P (refused k)) → (k ≡ 0 → P done) → P (unless k refused done)
       go zero r d = d refl
       go (suc k) r d = r (λ e. omega arith)
+
+  -- a reply that tells a refusal's number: where it tells 0, there was none
+  pub unless-none : (told : A → ℕ) → told (refused n) ≡ n → told (unless n refused done) ≡ 0 → n ≡ 0
+  unless-none told tells = unless-either (λ (a : A). told a ≡ 0 → n ≡ 0) (λ some e. sym tells ∙ e) (λ none e. none)

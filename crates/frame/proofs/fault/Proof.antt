@@ -5,7 +5,8 @@ use mathlib.Core.Path.{_≡_, sym, _∙_}
 use mathlib.Core.Bool.{false, _||_}
 use lib.Dec.{ltb}
 use borrow.Author.Tests.{le-leb, lt-leb, lt-ltb, le-ltb}
-use Rattle.frame.specs.Frame.{kinds, faultOf, _given_, _orElse_}
+use Rattle.theory_refusals.specs.Refusals.{firstOf}
+use Rattle.frame.specs.Frame.{kinds, faultLines}
 use Rattle.frame.proofs.fault.Statement.{statement}
 use Rattle.frame.proofs.fault.Tie as tie
 
@@ -20,22 +21,22 @@ outside-requires : tie.Need-outside-requires
 outside-requires c κs = search needs
 
 returns : tie.Need-returns
-unfolding faultOf _given_ _orElse_
+unfolding faultLines firstOf
 returns c = rw (sym (c .before .outside .ensures) ∙ c .if1 .taken)
 
 outside-requires-2 : tie.Need-outside-requires-2
 outside-requires-2 c κs = search needs
 
 returns-2 : tie.Need-returns-2
-unfolding faultOf _given_ _orElse_
+unfolding faultLines firstOf
 returns-2 c = rw (kind-known (c .before .before), sym (c .before .outside2 .ensures) ∙ c .if2 .taken)
 
 returns-3 : tie.Need-returns-3
-unfolding faultOf _given_ _orElse_
+unfolding faultLines firstOf
 returns-3 c = rw (kind-known (c .before .before .before), count-known (c .before), le-leb _ _ (c .if3 .taken))
 
 returns-4 : tie.Need-returns-4
-unfolding faultOf _given_ _orElse_
+unfolding faultLines firstOf
 returns-4 c = rw (
   kind-known (c .before .before .before .before),
   count-known (c .before .before),
@@ -44,7 +45,7 @@ returns-4 c = rw (
 )
 
 returns-5 : tie.Need-returns-5
-unfolding faultOf _given_ _orElse_
+unfolding faultLines firstOf
 returns-5 c = rw (
   kind-known (c .before .before .before .before),
   count-known (c .before .before),

@@ -6,7 +6,7 @@ use mathlib.Core.Path.{_≡_, sym}
 use mathlib.Core.List.{[], _∷_}
 use Prim.Native.Nat.{ℕ, _+_, _*_, _<_}
 use lib.ListN.{getD, take, drop}
-use Rattle.frame.specs.Bytes.{numeral, numbers}
+use Rattle.spelling.specs.Bytes.{numeral, numbers}
 use Rattle.frame.specs.Frame.{messageOf}
 use Rattle.frame.specs.Laws.{framed-byte}
 use Rattle.frame_read.proofs.message_in.Statement.{statement}

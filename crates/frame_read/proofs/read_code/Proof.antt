@@ -3,27 +3,28 @@
 use borrow.Author.Needs.{needs}
 use native.Mathlib.Omega.{arith}
 use mathlib.Core.Path.{_≡_, sym, _∙_}
-use mathlib.Core.List.{List}
-use mathlib.Core.Bool.{not}
+use mathlib.Core.List.{List, [], _∷_}
 use Prim.Native.Nat.{ℕ, _+_, _*_, _≤_}
-use lib.Dec.{eqb}
 use lib.ListN.{length}
 use borrow.Author.Tests.{eq-eqb, ne-eqb}
-use Rattle.frame.specs.Frame.{carried, lengthIn, messageIn, faultIn, lengthOf, readCode, _given_}
-use Rattle.frame.specs.Laws.{Whole, Faultless, faultless, length-in, version-in, kind-in, desks-in, desk-in, cell-in, carried-le}
-use Rattle.frame.specs.Laws.{length-of, first-refusal, none-first, too-short, cut-off, no-head, other-version, whole-code}
+use Rattle.theory_refusals.specs.Refusals.{firstOf, first-some, first-more}
+use Rattle.spelling.specs.Bytes.{numbers}
+use Rattle.frame.specs.Frame.{lengthIn, messageIn, faultsIn, faultIn, wrongLength, lengthOf, readCode}
+use Rattle.frame.specs.Laws.{Whole, faultless, called, fault-numbers, version-in, kind-in, desks-in, desk-in, cell-in}
+use Rattle.frame.specs.Laws.{too-short, cut-off, no-head, other-version, whole-code}
 use Rattle.frame_read.proofs.read_code.Statement.{statement}
 use Rattle.frame_read.proofs.read_code.Tie as tie
 
 -- the bytes, as seen where the desk count and all before it has passed
 abbrev bytes : tie.After-fault → List ℕ
-bytes c = c .before .before .before .before .before .before .before .before .before .before .before .before .before .before .args .s .now
+bytes c = c .before .before .before .before .before .before .before .before .before .before .before .before .args .s .now
 
-length-told : (c : tie.After-two) → lengthIn (c .before .before .before .before .before .args .s .now) ≡ c .two .result
-length-told c = length-in _ (omega arith) ∙ sym (c .two .ensures)
+length-told : (c : tie.After-two-at) → lengthIn (c .before .before .before .args .s .now) ≡ c .two-at .result
+unfolding numbers
+length-told c = sym (c .two-at .ensures)
 
 -- the tests up to the version: a whole frame of ours
-whole : (c : tie.Else4) → Whole (c .before .before .before .before .before .before .before .before .before .args .s .now)
+whole : (c : tie.Else4) → Whole (c .before .before .before .before .before .before .before .args .s .now)
 whole c =
     let told = length-told (c .before .before .before .before) in
     record {
@@ -41,12 +42,11 @@ fault-told c =
     rw (kind-in (bytes c) (long c), desks-in (bytes c) (long c), desk-in (bytes c) (long c), cell-in (bytes c) (long c)) (c .fault .ensures)
 
 -- what is left to refuse: a length that is not what kind and desk count call for, and what they call for
-code-left : (c : tie.After-carries) → readCode (bytes (c .before .before))
-    ≡ 36 given not (eqb (lengthIn (bytes (c .before .before))) (lengthOf (messageIn (bytes (c .before .before)) .kind) (messageIn
-    (bytes (c .before .before)) .desks)))
+code-left : (c : tie.After-carries) → readCode (bytes (c .before .before)) ≡ firstOf ((36, wrongLength (bytes (c .before .before))) ∷ [])
 code-left c =
-    let told = fault-told (c .before .before) in
-    whole-code _ (whole (c .before .before .before .before .before .before .before)) ∙ none-first _ (sym told ∙ c .before .if5 .left)
+    let m = messageIn (bytes (c .before .before)) in
+    whole-code _ (whole (c .before .before .before .before .before .before .before))
+    ∙ first-more (faultsIn m) _ (fault-numbers m) (sym (fault-told (c .before .before)) ∙ c .before .if5 .left)
 
 length-called : (c : tie.After-carries)
     → (lengthOf (messageIn (bytes (c .before .before)) .kind) (messageIn (bytes
@@ -54,24 +54,14 @@ length-called : (c : tie.After-carries)
 length-called c =
     let s = bytes (c .before .before) in
     let h = long (c .before .before) in
-    let kind = messageIn s .kind in
-    let desks = messageIn s .desks in
-    let known : Faultless kind desks (messageIn s .desk) (messageIn s .cell) = faultless _ _ _ _ (sym (fault-told
-    (c .before .before)) ∙ c .before .if5 .left) in
-    let carries : c .carries .result ≡ carried kind desks = rw (kind-in s h, desks-in s h) (c .carries .ensures) in
-    (omega (arith, length-of kind desks (known .desks-to), carries), omega (arith, carried-le kind desks, carries, known .desks-to))
+    let known = faultless _ _ _ _ (sym (fault-told (c .before .before)) ∙ c .before .if5 .left) in
+    called known (rw (kind-in s h, desks-in s h) (c .carries .ensures))
 
 returns : tie.Need-returns
 returns c = sym (too-short _ (c .if1 .taken))
 
-shared-slice-read-two : tie.Need-shared-slice-read-two
-shared-slice-read-two c = search needs
-
-shared-slice-read-two-2 : tie.Need-shared-slice-read-two-2
-shared-slice-read-two-2 c = search needs
-
-two-requires : tie.Need-two-requires
-two-requires c κs = search needs
+two-at-requires : tie.Need-two-at-requires
+two-at-requires c κs = search needs
 
 sub-if2 : tie.Need-sub-if2
 sub-if2 c = search needs
@@ -90,7 +80,7 @@ shared-slice-read-if4 c = search needs
 returns-4 : tie.Need-returns-4
 returns-4 c =
     let told = length-told (c .before .before .before .before) in
-    let version = version-in (c .before .before .before .before .before .before .before .before .before .args .s .now) (omega (
+    let version = version-in (c .before .before .before .before .before .before .before .args .s .now) (omega (
       arith,
       told,
     )) in
@@ -115,7 +105,7 @@ returns-5 : tie.Need-returns-5
 returns-5 c =
     let told = fault-told (c .before) in
     told ∙ sym (whole-code _ (whole (c .before .before .before .before .before .before))
-    ∙ first-refusal _ _ (λ e. c .if5 .taken (told ∙ e)))
+    ∙ first-some (faultsIn (messageIn (bytes (c .before)))) _ (λ e. c .if5 .taken (told ∙ e)))
 
 carries-requires : tie.Need-carries-requires
 carries-requires c κs = search needs
@@ -127,13 +117,13 @@ add-if6 : tie.Need-add-if6
 add-if6 c = omega (arith, length-called c .1)
 
 returns-6 : tie.Need-returns-6
-unfolding _given_
+unfolding firstOf
 returns-6 c =
     let told = length-told (c .before .before .before .before .before .before .before .before .before .before .before .before) in
     sym (code-left (c .before) ∙ rw (ne-eqb _ _ (λ e. c .if6 .taken (sym told ∙ e ∙ length-called (c .before) .0))))
 
 returns-7 : tie.Need-returns-7
-unfolding _given_
+unfolding firstOf
 returns-7 c =
     let told = length-told (c .before .before .before .before .before .before .before .before .before .before .before .before) in
     sym (code-left (c .before) ∙ rw (eq-eqb _ _ (told ∙ c .if6 .left ∙ sym (length-called (c .before) .0))))
@@ -143,9 +133,7 @@ read-code-spec =
     tie.close
     (tie.spec
     returns
-    shared-slice-read-two
-    shared-slice-read-two-2
-    two-requires
+    two-at-requires
     sub-if2
     returns-2
     returns-3

@@ -7,7 +7,7 @@ use mathlib.Core.List.{List, _∷_, _++_, append-assoc}
 use Prim.Native.Nat.{ℕ, suc, _+_, _*_, _-_, _≤_}
 use lib.ListN.{length, take, drop, length-append}
 use lib.Seq.{length-take-le}
-use Rattle.frame.specs.Bytes.{bytes, spell, length-bytes, put, put-none, put-next}
+use Rattle.spelling.specs.Bytes.{bytes, spell, length-bytes, put, put-none, put-next}
 use Rattle.frame.specs.Frame.{widths}
 use Rattle.frame_write.proofs.put_numbers.Statement.{statement}
 use Rattle.frame_write.proofs.put_numbers.Tie as tie
@@ -30,29 +30,29 @@ returns : tie.Need-returns
 unfolding spell
 returns c = rw (c .if1 .taken) (put-none _ 7)
 
-put-number-requires : tie.Need-put-number-requires
-put-number-requires c κs = search needs
+put-four-requires : tie.Need-put-four-requires
+put-four-requires c κs = search needs
 
-sub-put-clock : tie.Need-sub-put-clock
-sub-put-clock c = search needs
+sub-put-fours : tie.Need-sub-put-fours
+sub-put-fours c = search needs
 
-put-clock-requires : tie.Need-put-clock-requires
-put-clock-requires c κs = search needs
+put-fours-requires : tie.Need-put-fours-requires
+put-fours-requires c κs = search needs
 
 same-length : tie.Need-same-length
 same-length c = search needs
 
 returns-2 : tie.Need-returns-2
 returns-2 c =
-    let start = c .before .before .before .before .before .before .before .before .before .before in
+    let start = c .before .before .before .before .before .before .before .before .before .before .before in
     let room : 11 ≤ length (start .args .out .now) = omega arith in
     let one-less : suc (start .args .c - 1) ≡ start .args .c = omega arith in
-    c .before .before .put-clock .ensures
+    c .before .before .put-fours .ensures
     ∙ ap (put 11 (spell (take (start .args .c - 1) (drop 7 widths)) (start .args .clock .n)) (4 * (start .args .c - 1)))
-    (c .before .before .before .before .before .before .put-number .ensures)
+    (c .before .before .before .before .before .before .before .put-four .ensures)
     ∙ joined (start .args .out .now) (start .args .clock .n) (start .args .word) (start .args .c) (start .args .c - 1) one-less room
 
 pub put-numbers-spec : {M : Type 1} → statement M
 put-numbers-spec =
     tie.close
-    (tie.spec returns put-number-requires sub-put-clock put-clock-requires same-length returns-2)
+    (tie.spec returns put-four-requires sub-put-fours put-fours-requires same-length returns-2)

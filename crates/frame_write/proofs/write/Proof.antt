@@ -7,9 +7,9 @@ use mathlib.Core.List.{List, _++_}
 use Prim.Native.Nat.{ℕ, _+_, _*_, _≤_}
 use lib.ListN.{length, drop}
 use Rattle.desk.specs.declared.Message.{Message}
-use Rattle.frame.specs.Bytes.{bytes, spell, put, put-next}
+use Rattle.spelling.specs.Bytes.{bytes, spell, put, put-next}
 use Rattle.frame.specs.Frame.{carried, lengthOf, frameOf}
-use Rattle.frame.specs.Laws.{Writable, writable, headOf, bodyOf, carried-le, length-of, frame-split, write-refused, write-accepted}
+use Rattle.frame.specs.Laws.{Writable, writable, called, headOf, bodyOf, frame-split, write-refused, write-accepted}
 use Rattle.frame_write.proofs.write.Statement.{statement}
 use Rattle.frame_write.proofs.write.Tie as tie
 
@@ -36,17 +36,9 @@ carries-told : (c : tie.After-carries)
     × (c .carries .result ≤ 9)
     × (7 + 4 * c .carries .result ≤ length (c .before .before .before .before .args .out .now))
 carries-told c =
-    let m = c .before .before .before .before .args .m in
-    let ready = told (c .before) in (
-      omega (arith, length-of (m .kind) (m .desks) (ready .known .desks-to), c .carries .ensures),
-      omega (
-        arith,
-        carried-le (m .kind) (m .desks),
-        c .carries .ensures,
-        ready .known .desks-to,
-      ),
-      omega (arith, ready .fitting, c .carries .ensures),
-    )
+    let ready = told (c .before) in
+    let size = called (ready .known) (c .carries .ensures) in
+    (size .0, size .1, omega (arith, ready .fitting, c .carries .ensures))
 
 write-code-requires : tie.Need-write-code-requires
 write-code-requires c κs = search needs

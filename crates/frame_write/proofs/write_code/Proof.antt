@@ -9,7 +9,7 @@ use borrow.Author.Tests.{not-true, not-false}
 use Rattle.theory_lists.specs.Each.{mapAt}
 use Rattle.theory_lists.specs.Test.{every}
 use Rattle.frame.specs.Frame.{lengthOf, faultIn, wellFormed, carriedOrZero}
-use Rattle.frame.specs.Laws.{Faultless, faultless, carried-le, length-of, faulty, not-well-formed, no-room, can-write}
+use Rattle.frame.specs.Laws.{faultless, called, faulty, not-well-formed, no-room, can-write}
 use Rattle.frame_write.proofs.write_code.Statement.{statement}
 use Rattle.frame_write.proofs.write_code.Tie as tie
 
@@ -25,17 +25,7 @@ clean-told c =
 length-told : (c : tie.After-carries)
     → (lengthOf (c .before .before .before .args .m .kind)
     (c .before .before .before .args .m .desks) ≡ 5 + 4 * c .carries .result) × (c .carries .result ≤ 9)
-length-told c =
-    let m = c .before .before .before .args .m in
-    let known : Faultless (m .kind) (m .desks) (m .desk) (m .cell) = faultless _ _ _ _ (no-fault (c .before)) in (
-      omega (arith, length-of (m .kind) (m .desks) (known .desks-to), c .carries .ensures),
-      omega (
-        arith,
-        carried-le (m .kind) (m .desks),
-        c .carries .ensures,
-        known .desks-to,
-      ),
-    )
+length-told c = called (faultless _ _ _ _ (no-fault (c .before))) (c .carries .ensures)
 
 fault-requires : tie.Need-fault-requires
 fault-requires c κs = search needs

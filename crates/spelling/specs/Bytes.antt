@@ -106,8 +106,8 @@ spell-next (suc c) (w ∷ ws) (n ∷ ns) h i =
 abbrev pub put : ℕ → List ℕ → ℕ → List ℕ → List ℕ
 put p bs n l = take p l ++ bs ++ drop (p + n) l
 
-pub put-none : (l : List ℕ) (p : ℕ) → l ≡ take p l ++ [] ++ drop p l
-put-none l p = sym (ap (λ (x : List ℕ). x ++ drop p l) (append-nil (take p l)) ∙ take-append-drop p l)
+pub put-none : (l : List ℕ) (p : ℕ) → l ≡ put p [] 0 l
+put-none l p = rw (add-zero p, append-nil (take p l), take-append-drop p l)
 
 -- a list that starts with `first`, after which more is put: the list that starts with both
 pub put-next : (l first more : List ℕ) (p n : ℕ) → length first ≡ p

@@ -1,10 +1,10 @@
--- `frame_read::two` meets its contract: the number that two bytes are.
+-- `spelling::two` meets its contract: the number that two bytes are.
 -- Assumes nothing.
 use borrow.Author.Needs.{needs}
 use native.Mathlib.Omega.{arith}
-use Rattle.frame.specs.Bytes.{followed}
-use Rattle.frame_read.proofs.two.Statement.{statement}
-use Rattle.frame_read.proofs.two.Tie as tie
+use Rattle.spelling.specs.Bytes.{followed}
+use Rattle.spelling.proofs.two.Statement.{statement}
+use Rattle.spelling.proofs.two.Tie as tie
 
 mul-result : tie.Need-mul-result
 mul-result c = search needs

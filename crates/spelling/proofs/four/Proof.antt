@@ -1,10 +1,10 @@
--- `frame_read::four` meets its contract: the number that four bytes are.
+-- `spelling::four` meets its contract: the number that four bytes are.
 -- Assumes nothing.
 use borrow.Author.Needs.{needs}
 use native.Mathlib.Omega.{arith}
-use Rattle.frame.specs.Bytes.{followed}
-use Rattle.frame_read.proofs.four.Statement.{statement}
-use Rattle.frame_read.proofs.four.Tie as tie
+use Rattle.spelling.specs.Bytes.{followed}
+use Rattle.spelling.proofs.four.Statement.{statement}
+use Rattle.spelling.proofs.four.Tie as tie
 
 mul-result : tie.Need-mul-result
 mul-result c = search needs

@@ -1,4 +1,4 @@
--- `frame_write::put_number` meets its contract: four stores, which are the number's bytes.
+-- `spelling::put_four` meets its contract: four stores, which are the number's bytes.
 -- Assumes nothing.
 use borrow.Author.Needs.{needs}
 use native.Mathlib.Omega.{arith}
@@ -8,9 +8,9 @@ use Prim.Native.Nat.{suc, _+_, _/_, _%_}
 use native.Mathlib.Numerals.{add-one}
 use lib.ListN.{length-set}
 use lib.Seq.{sets-eq}
-use Rattle.frame.specs.Bytes.{bytes}
-use Rattle.frame_write.proofs.put_number.Statement.{statement}
-use Rattle.frame_write.proofs.put_number.Tie as tie
+use Rattle.spelling.specs.Bytes.{bytes}
+use Rattle.spelling.proofs.put_four.Statement.{statement}
+use Rattle.spelling.proofs.put_four.Tie as tie
 
 cast-out : tie.Need-cast-out
 cast-out c = search needs
@@ -58,8 +58,8 @@ returns c =
     rw (add-one at, second, third)
     (sets-eq (x / 256 / 256 / 256 % 256 ∷ x / 256 / 256 % 256 ∷ x / 256 % 256 ∷ x % 256 ∷ []) (c .args .out .now) at (omega arith))
 
-pub put-number-spec : {M : Type 1} → statement M
-put-number-spec =
+pub put-four-spec : {M : Type 1} → statement M
+put-four-spec =
     tie.close
     (tie.spec
     cast-out
