@@ -11,13 +11,14 @@ use Rattle.theory_causal.specs.Changed.{changed}
 use Rattle.theory_causal.specs.History.{Words, Source, blank, from, Step, nothing, wrote, showed}
 use Rattle.desk.specs.declared.Event.{Event}
 use Rattle.desk.specs.declared.Reply.{Reply}
+use Rattle.desk.specs.Desk.{Word, noWord, isNoWord}
 use Rattle.table.specs.declared.Outcome.{Outcome}
 use Rattle.table.specs.declared.Table.{Table}
-use Rattle.table.specs.Table.{slotOf, keeperOf}
+use Rattle.table.specs.Table.{slotOf, keeperFor}
 
--- the words of cells: numbers, and 0 where none was written
+-- the words of cells, and the one that stands where none was written
 abbrev pub words : Words
-words = record { Word = ℕ; noWord = 0 }
+words = record { Word = Word; noWord = noWord }
 
 -- Beside each desk: which write each held cell's word comes from, which one the answer in its slot, and the step at which it asked.
 pub record Trail : Type 0 where
@@ -43,7 +44,7 @@ entry n g t e r =
     let p = e .desk in
     let c = e .cell in
     let s = slotOf t p in
-    let k = keeperOf t (s .cell) in
+    let k = keeperFor t p in
     let finished = eqb (r .code) 0 || eqb (r .code) 2 in
     -- a read of a held cell is finished
     cond (eqb (e .kind) 1 && finished) (showed p c (r .value) (g p .source c) n, g)
@@ -76,10 +77,10 @@ noReply = record { code = 0; value = 0; count = 0 }
 abbrev pub repliedAt : Account → (step : ℕ) → Reply
 repliedAt a x = getD (a .replies) x noReply
 
--- the reply gives this word: with code 2 if it is 0, else with code 0
-pub record Shows (r : Reply) (word : ℕ) : Type 0 where
+-- the reply gives this word: with code 2 if it is none, else with code 0
+pub record Shows (r : Reply) (word : Word) : Type 0 where
   pub value : r .value ≡ word
-  pub code : r .code ≡ cond (eqb word 0) 2 0
+  pub code : r .code ≡ cond (isNoWord word) 2 0
 
 -- before the first event no word comes from a write
 abbrev pub opened : Table → Account

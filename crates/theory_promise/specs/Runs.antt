@@ -2,7 +2,7 @@
 -- Assumes nothing.
 use mathlib.Core.Path.{_≡_, refl, sym, ap, subst₂, _∙_}
 use mathlib.Core.List.{List, [], _∷_, _++_}
-use Prim.Native.Nat.{ℕ, zero, suc}
+use Prim.Native.Nat.{ℕ}
 use native.Mathlib.Decide.{decLt, ℕ-discrete}
 use native.Mathlib.Omega.{arith}
 use lib.ListN.{length, getD, length-append, List·getD-append, List·getD-eq-default}
@@ -10,11 +10,14 @@ use lib.Seq.{getD-append-seam}
 use Rattle.theory_causal.specs.History.{quiet, read, Step, nothing, listed}
 use Rattle.theory_causal.specs.Machine as machine
 use Rattle.desk.specs.declared.Event.{Event}
+use Rattle.desk.specs.declared.Plan.{Plan}
 use Rattle.desk.specs.declared.Reply.{Reply}
 use Rattle.desk.specs.Start.{freshTray, setUpRefusal}
+use Rattle.table.specs.declared.SetUp.{SetUp}
 use Rattle.table.specs.Fresh.{fresh-sized}
 use Rattle.table.specs.Rules.{eventRule}
-use Rattle.table.specs.SetUp.{freshTable, answerSetUp, setUpRule}
+use Rattle.table.specs.SetUp.{freshTable, notSetUp, setUpRule}
+use Rattle.theory_refusals.specs.Refusals.{unless-either}
 use Rattle.theory_promise.specs.Link.{Tied, linked}
 use Rattle.theory_promise.specs.Operations.{words, entry, Account, noReply, repliedAt, opened, next, run}
 use Rattle.theory_promise.specs.Room.{Room}
@@ -71,22 +74,18 @@ runs-all a [] r = r
 runs-all a (e ∷ es) r = runs-all (next eventRule a e) es (runs-next a e r)
 
 -- ---- from a set-up that is not refused
-module _ (desks cells : ℕ) (keepers : List ℕ) (long : length keepers ≡ 32) where
-  is-fresh : (n : ℕ) → answerSetUp n (freshTable (freshTray desks cells keepers)) .code ≡ 0
-      → answerSetUp n (freshTable (freshTray desks cells keepers)) .table ≡ freshTable (freshTray desks cells keepers)
-  unfolding answerSetUp
-  is-fresh zero e = refl
-  is-fresh (suc n) e = absurd (omega (arith, e))
-
-  runs-fresh : Runs (opened (freshTable (freshTray desks cells keepers)))
+module _ (p : Plan) (long : length (p .keepers) ≡ 32) where
+  runs-fresh : Runs (opened (freshTable (freshTray p)))
   runs-fresh = record {
-    room = record { sized = fresh-sized desks cells keepers long; clocks = fresh-clocks (freshTray desks cells keepers) };
-    runs = machine.start (start (freshTray desks cells keepers));
+    room = record { sized = fresh-sized p long; clocks = fresh-clocks (freshTray p) };
+    runs = machine.start (start (freshTray p));
     long = refl;
     tied = λ x k. absurd (quiet-read k);
   }
 
-  pub runs-from : setUpRule desks cells keepers .code ≡ 0 → (events : List Event)
-      → Runs (run eventRule (opened (setUpRule desks cells keepers .table)) events)
+  pub runs-from : setUpRule p .code ≡ 0 → (events : List Event) → Runs (run eventRule (opened (setUpRule p .table)) events)
   unfolding setUpRule
-  runs-from e events = runs-all _ events (rw (is-fresh (setUpRefusal desks cells keepers) e) runs-fresh)
+  runs-from ok events =
+      runs-all _ events
+      (unless-either (setUpRefusal p) notSetUp (record { code = 0; table = freshTable (freshTray p) })
+      (λ (s : SetUp). s .code ≡ 0 → Runs (opened (s .table))) (λ some ok. absurd (some ok)) (λ none ok. runs-fresh) ok)
