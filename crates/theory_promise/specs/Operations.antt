@@ -2,7 +2,7 @@
 -- "A read is finished when code 0 or 2 gives its word ...". No part of the table: it is told beside it.
 -- Assumes nothing.
 use mathlib.Core.Path.{_≡_}
-use mathlib.Core.Bool.{_&&_, _||_, cond}
+use mathlib.Core.Bool.{Bool, _&&_, _||_, cond}
 use mathlib.Core.List.{List, [], _∷_, _++_}
 use Prim.Native.Nat.{ℕ}
 use lib.Dec.{eqb}
@@ -38,6 +38,10 @@ waiting b n = record { source = b .source; answer = b .answer; asked = n }
 abbrev pub Trails : Type 0
 Trails = (desk : ℕ) → Trail
 
+-- "A read is finished when code 0 or 2 gives its word."
+unfoldable pub isFinished : (code : ℕ) → Bool
+isFinished code = eqb code 0 || eqb code 2
+
 -- What an event at step n adds to the history, and the trails after it, as its kind, its reply and the desk's slot before it tell.
 unfoldable pub entry : (n : ℕ) → Trails → Table → Event → Reply → Step words × Trails
 entry n g t e r =
@@ -45,9 +49,8 @@ entry n g t e r =
     let c = e .cell in
     let s = slotOf t p in
     let k = keeperFor t p in
-    let finished = eqb (r .code) 0 || eqb (r .code) 2 in
     -- a read of a held cell is finished
-    cond (eqb (e .kind) 1 && finished) (showed p c (r .value) (g p .source c) n, g)
+    cond (eqb (e .kind) 1 && isFinished (r .code)) (showed p c (r .value) (g p .source c) n, g)
     -- a keeper stores its own write
     (cond (eqb (e .kind) 2 && eqb (r .code) 0) (wrote p c (e .word) n, changed g p (holding (g p) c (from n)))
     -- a read or a write is asked
@@ -57,7 +60,7 @@ entry n g t e r =
     (cond (eqb (e .kind) 3 && eqb (r .code) 0)
     (wrote p (s .cell) (s .word) (g p .asked), changed (changed g k (holding (g k) (s .cell) (from n))) p (answered (g p) (from n)))
     -- a bring: an asked read is finished, or the answer to a write has arrived
-    (cond (eqb (e .kind) 4 && finished) (
+    (cond (eqb (e .kind) 4 && isFinished (r .code)) (
       cond (eqb (s .kind) 3) (showed p (s .cell) (r .value) (g p .answer) (g p .asked)) nothing,
       changed g p (holding (g p) (s .cell) (g p .answer)),
     )

@@ -1,13 +1,13 @@
 -- Every run of the table's rules, from any set-up that is not refused, is a run of the machine, and its replies give what its history says.
 -- Assumes nothing.
-use mathlib.Core.Path.{_≡_, refl, sym, ap, subst₂, _∙_}
+use mathlib.Core.Path.{_≡_, refl, sym, subst₂}
 use mathlib.Core.List.{List, [], _∷_, _++_}
 use Prim.Native.Nat.{ℕ}
 use native.Mathlib.Decide.{decLt, ℕ-discrete}
 use native.Mathlib.Omega.{arith}
 use lib.ListN.{length, getD, length-append, List·getD-append, List·getD-eq-default}
 use lib.Seq.{getD-append-seam}
-use Rattle.theory_causal.specs.History.{quiet, read, Step, nothing, listed}
+use Rattle.theory_causal.specs.History.{Step, nothing, listed}
 use Rattle.theory_causal.specs.Machine as machine
 use Rattle.desk.specs.declared.Event.{Event}
 use Rattle.desk.specs.declared.Plan.{Plan}
@@ -22,7 +22,7 @@ use Rattle.theory_promise.specs.Link.{Tied, linked}
 use Rattle.theory_promise.specs.Operations.{words, entry, Account, noReply, repliedAt, opened, next, run}
 use Rattle.theory_promise.specs.Room.{Room}
 use Rattle.theory_promise.specs.Start.{start, fresh-clocks}
-use Rattle.theory_promise.specs.State.{state}
+use Rattle.theory_promise.specs.State.{clash, state}
 
 -- what holds of a run so far
 pub record Runs (a : Account) : Type 0 where
@@ -32,9 +32,6 @@ pub record Runs (a : Account) : Type 0 where
   pub tied : (x : ℕ) → Tied (listed (a .history) x) (repliedAt a x)
 
 -- ---- one event more
-quiet-read : quiet ≡ read → ⊥
-quiet-read e = let z : _≡_ {A = ℕ} 0 1 = cc in omega arith
-
 seam : {A : Type 0} (l : List A) (a d : A) (x : ℕ) → x ≡ length l → getD (l ++ (a ∷ [])) x d ≡ a
 seam l a d x e = rw e (getD-append-seam l a [] d)
 
@@ -53,7 +50,7 @@ module _ (h : List (Step words)) (l : List Reply) (o : Step words) (r : Reply) (
           | yes e ↦ (let f : x ≡ length l = omega arith in subst₂ Tied (sym (seam h o nothing x e)) (sym (seam l r d x f)) new)
           | no ne ↦ (
               let past = List·getD-eq-default (h ++ (o ∷ [])) nothing {n = x} (omega (arith, length-append h (o ∷ []))) in
-              λ k. absurd (quiet-read (ap (λ (s : Step words). s .kind) (sym past) ∙ k)))
+              λ k. clash (cc past))
         ]
       ]
 
@@ -80,7 +77,7 @@ module _ (p : Plan) (long : length (p .keepers) ≡ 32) where
     room = record { sized = fresh-sized p long; clocks = fresh-clocks (freshTray p) };
     runs = machine.start (start (freshTray p));
     long = refl;
-    tied = λ x k. absurd (quiet-read k);
+    tied = λ x k. clash (cc);
   }
 
   pub runs-from : setUpRule p .code ≡ 0 → (events : List Event) → Runs (run eventRule (opened (setUpRule p .table)) events)

@@ -28,7 +28,7 @@ use Rattle.table.specs.SetUp.{setUpRule}
 use Rattle.table.specs.Table.{recordOf, putBack}
 use Rattle.theory_refusals.specs.Refusals.{unless}
 use Rattle.theory_promise.specs.Case.{casePlan, script}
-use Rattle.theory_promise.specs.Operations.{words, run}
+use Rattle.theory_promise.specs.Operations.{words}
 use Rattle.theory_promise.specs.Played.{event, plan, played}
 use Rattle.theory_promise.specs.Promise.{Demand3}
 
@@ -108,7 +108,8 @@ drops-nothing-breaks =
     (chain (chain (then (listed second) 4 10 (inl refl) (inl refl) refl (omega arith)) (shown {w = 10} {x = 11} refl refl refl))
     (then (listed second) 11 12 (inr refl) (inr refl) refl (omega arith))) in
     let own-last : Before 7 9 l = causal 7 9 (inl refl) (inr (refl, refl)) (then (listed second) 7 9 (inl refl) (inr refl) refl (omega arith)) in
-    let overwritten : Before 4 7 l = ⊎-elim (λ e. absurd (omega (arith, e))) (λ b. b) (o .explains .nearest 12 (refl, refl) .2 4 (refl, refl) old-seen) in
+    let overwritten : Before 4 7 l =
+    ⊎-elim (λ e. absurd (omega (arith, e))) (λ b. b) (o .explains .nearest 12 (refl, refl) .2 4 (refl, refl) old-seen) in
     o .explains .nearest 9 (refl, refl) 3 (refl, refl) (through 3 7 9 l (o .once) (through 3 4 7 l (o .once) datum-first overwritten) own-last))
 
 -- Desk 0 keeps cell 0 and desk 1 cell 1. Desk 1 writes 27 in cell 0 and then 28, and serves a write of desk 0's before the second answer,

@@ -12,7 +12,6 @@ use Rattle.theory_causal.specs.Facts.{zeros}
 use Rattle.theory_causal.specs.History.{blank}
 use Rattle.theory_causal.specs.Keepers as causal
 use Rattle.theory_causal.specs.Machine.{Held, held, empty, unwritten, Start}
-use Rattle.theory_causal.specs.Machine as machine
 use Rattle.clock.specs.declared.Clock.{Clock}
 use Rattle.clock.specs.Clock.{number, zeroClock}
 use Rattle.clock.specs.Laws.{zero-past}

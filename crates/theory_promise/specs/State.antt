@@ -31,6 +31,10 @@ use Rattle.table.specs.declared.Table.{Table}
 use Rattle.table.specs.Table.{recordOf}
 use Rattle.theory_promise.specs.Operations.{words, Trail, Trails}
 
+-- what cannot be: two constructors that are one
+pub clash : {A : Type 0} → _≡_ {A = ℕ} 0 1 → A
+clash z = absurd (omega arith)
+
 -- ---- the state
 abbrev pub heldOf : Source → Word → Clock → Held words
 heldOf s w k = record { source = s; word = w; stamp = number k }
@@ -104,7 +108,7 @@ is-held x s g e = go (x .held) refl
   where
     go : (b : Bool) → x .held ≡ b → (x .held ≡ true) × (g ≡ heldOf s (x .word) (x .stamp))
     go true p = (p, cc (held-cell x s p))
-    go false p = let z : _≡_ {A = ℕ} 0 1 = cc (gone-cell x s p) in absurd (omega arith)
+    go false p = clash (cc (gone-cell x s p))
 
 -- one place of a row is now x, from s
 module _ (row : List Cell) (source : ℕ → Source) (c : ℕ) (x : Cell) (s : Source) where

@@ -1,6 +1,6 @@
 -- 4 Bring as a move of one desk.
 -- Assumes nothing.
-use mathlib.Core.Path.{_≡_, refl, sym, subst, _∙_}
+use mathlib.Core.Path.{_≡_, refl, sym, _∙_}
 use mathlib.Core.Bool.{Bool, true, false}
 use mathlib.Core.Logic.{_≢_}
 use Prim.Native.Nat.{ℕ, _<_}
@@ -9,7 +9,7 @@ use lib.Seq.{getD-set-other}
 use Rattle.theory_causal.specs.Changed.{changed, changed-here, changed-elsewhere}
 use Rattle.theory_causal.specs.History.{Step, nothing, showed}
 use Rattle.theory_causal.specs.Keepers as causal
-use Rattle.theory_causal.specs.Machine.{Held, held, empty, read-answered, write-answered, brings-read, brings-write}
+use Rattle.theory_causal.specs.Machine.{Held, held, read-answered, write-answered, brings-read, brings-write}
 use Rattle.theory_causal.specs.Machine as machine
 use Rattle.clock.specs.Clock.{number}
 use Rattle.clock.specs.Laws.{merge-length}
@@ -25,7 +25,7 @@ use Rattle.table.specs.Table.{recordOf, putBack}
 use Rattle.theory_promise.specs.Moves.{Moved, Becomes, alone-moved}
 use Rattle.theory_promise.specs.Operations.{words, Trail, Trails, holding}
 use Rattle.theory_promise.specs.Room.{Room}
-use Rattle.theory_promise.specs.State.{heldOf, cellOf, slotFor, cellsOf, rows, state, merged-numbers, set-here, fate-learned}
+use Rattle.theory_promise.specs.State.{clash, heldOf, cellOf, slotFor, cellsOf, rows, state, merged-numbers, set-here, fate-learned}
 
 module _ (n : ℕ) (t : Table) (g : Trails) (z : Room t) (p : ℕ) (there : p < 8) (r : RowRule (recordOf t p))
     (m : Message) (h : m .cell < 32) (ne : keeperOf (t .tray) (m .cell) ≢ p) where
@@ -45,7 +45,7 @@ module _ (n : ℕ) (t : Table) (g : Trails) (z : Room t) (p : ℕ) (there : p < 
   fate : (c : ℕ) → c ≢ m .cell → causal.Fate (keeperOf (t .tray)) (rows t g) p (number (m .clock)) new c
   unfolding recordOf brings
   fate =
-      fate-learned t g p r (m .clock) (holds v (m .cell) noCell .row) (m .cell) (brought (v .seat .served) m) (g p .answer)
+      fate-learned t g p r (m .clock) (holds v (m .cell) noCell .row) (m .cell) _ _
       (λ c nc. getD-set-other (v .row) (m .cell) c noCell pastCell nc)
 
   -- the named cell is held with the answer, and only if *served* is off
@@ -55,11 +55,11 @@ module _ (n : ℕ) (t : Table) (g : Trails) (z : Room t) (p : ℕ) (there : p < 
     where
       here : new (m .cell) ≡ cellOf (brought (v .seat .served) m) (g p .answer)
       here =
-          set-here (learns (holds v (m .cell) noCell) (m .clock) .row) (g p .source) (m .cell) (brought (v .seat .served) m) (g p .answer)
+          set-here (learns (holds v (m .cell) noCell) (m .clock) .row) (g p .source) (m .cell) _ _
           (omega (arith, brings-same v m .same-length, row-length t p (z .sized) there))
 
       go : (on : Bool) → v .seat .served ≡ on → cellOf (brought on m) (g p .answer) ≡ held k → (k ≡ answer) × (v .seat .served ≡ false)
-      go true i e = let z : _≡_ {A = ℕ} 0 1 = cc in absurd (omega arith)
+      go true i e = clash (cc)
       go false i e = (cc, i)
 
   -- whether a read or a write was answered
@@ -68,13 +68,11 @@ module _ (n : ℕ) (t : Table) (g : Trails) (z : Room t) (p : ℕ) (there : p < 
       → Becomes n t g p (machine.brought (rows t g p) (number (m .clock)) new) o a)
       → Moved n t g (putBack t (brings v m)) (changed g p b) o
   unfolding recordOf slotFor brings
-  home-moved {o} {a} make =
+  home-moved {a = a} make =
       alone-moved n t g z p there (brings v m) (changed g p b) b
       (record { same = brings-same v m; clock = omega (arith, merge-length (v .seat .clock) (m .clock), z .clocks p there) })
-      (changed-here g p b) (changed-elsewhere g p b)
-      (subst
-      (λ (k : ℕ → ℕ). Becomes n t g p (record { clock = k; cells = new; slot = empty; served = false; asked = g p .asked }) o a)
-      (sym (merged-numbers (v .seat .clock) (m .clock)))
+      (changed-here g p b) (changed-elsewhere g p b) {a = a}
+      (rw (merged-numbers (v .seat .clock) (m .clock))
       (make (causal.brings (keeperOf (t .tray)) (rows t g) p (m .cell) answer new fate named)))
       (causal.kept-cells (keeperOf (t .tray)) (rows t g) p (number (m .clock)) new (m .cell) ne fate)
 

@@ -17,7 +17,7 @@ use Rattle.clock.specs.Laws.{merge-length}
 use Rattle.desk.specs.declared.Message.{Message}
 use Rattle.desk.specs.declared.Record.{Record}
 use Rattle.desk.specs.declared.Slot.{Slot}
-use Rattle.desk.specs.Desk.{cellAt, keeperOf, heldCell, waits}
+use Rattle.desk.specs.Desk.{cellAt, keeperOf, waits}
 use Rattle.desk.specs.Rules.{learns, takes}
 use Rattle.desk.specs.SameDesk.{seat-same, takes-same}
 use Rattle.desk.specs.SoundLaws.{RowRule}
@@ -116,6 +116,9 @@ module _ (n : ℕ) (t : Table) (g : Trails) (z : Room t) (k p : ℕ) (two : Two 
   abbrev stamped : Held words
   stamped = machine.stored n (m .word) (machine.merged (number (v .seat .clock)) (number (m .clock)))
 
+  abbrev on : Bool
+  on = takes v m .seat .served
+
   abbrev new : ℕ → machine.Cell words
   new = cellsOf (takes v m .row) (changed (g k .source) (m .cell) (from n))
 
@@ -127,26 +130,25 @@ module _ (n : ℕ) (t : Table) (g : Trails) (z : Room t) (k p : ℕ) (two : Two 
   unfolding takes
   up = merged-numbers (v .seat .clock) (m .clock)
 
+  -- another cell is kept, lost, or not strictly before the sent clock
+  fate : RowRule v → (c : ℕ) → c ≢ m .cell → causal.Fate (keeperOf (t .tray)) (rows t g) k (number (m .clock)) new c
+  unfolding recordOf takes
+  fate r = fate-learned t g k r (m .clock) (v .row) (m .cell) _ _ (λ c nc. refl)
+
   -- the word is stored
   here : new (m .cell) ≡ held stamped
   unfolding takes cellOf
   here =
-      set-here (learns v (m .clock) .row) (g k .source) (m .cell) (heldCell (m .word) (takes v m .seat .clock)) (from n)
+      set-here (learns v (m .clock) .row) (g k .source) (m .cell) _ _
       (omega (arith, takes-same v m .same-length, row-length t k (z .sized) (two .keeper)))
       ∙ ap (λ (a : ℕ → ℕ). held (machine.stored n (m .word) a)) up
 
-  -- another cell is kept, lost, or not strictly before the sent clock
-  fate : RowRule v → (c : ℕ) → c ≢ m .cell → causal.Fate (keeperOf (t .tray)) (rows t g) k (number (m .clock)) new c
-  unfolding recordOf takes
-  fate r =
-      fate-learned t g k r (m .clock) (v .row) (m .cell) (heldCell (m .word) (takes v m .seat .clock)) (from n) (λ c nc. refl)
-
   -- a keeper that waits has *served* on
-  serving : (rows t g k .slot ≡ empty) ⊎ (takes v m .seat .served ≡ true)
+  serving : (rows t g k .slot ≡ empty) ⊎ (on ≡ true)
   unfolding takes
   serving = go (waits (v .seat .slot)) refl
     where
-      go : (w : Bool) → waits (v .seat .slot) ≡ w → (rows t g k .slot ≡ empty) ⊎ (takes v m .seat .served ≡ true)
+      go : (w : Bool) → waits (v .seat .slot) ≡ w → (rows t g k .slot ≡ empty) ⊎ (on ≡ true)
       go true e = inr (ap (λ (w : Bool). v .seat .served || w) e ∙ or-true (v .seat .served))
       go false e = inl (empty-slot (v .seat .slot) (g k .answer) e)
 
@@ -158,15 +160,15 @@ module _ (n : ℕ) (t : Table) (g : Trails) (z : Room t) (k p : ℕ) (two : Two 
   take-moved r e = record {
     room = taken-room t z two (takes v m) fits write-answer;
     learned = stamped .stamp;
-    move = machine.takes k p (m .cell) (m .word) (number (m .clock)) new (takes v m .seat .served) record {
+    move = machine.takes k p (m .cell) (m .word) (number (m .clock)) new (on) record {
       apart = two .apart;
       asks = e;
       stores =
-          causal.stores (keeperOf (t .tray)) (rows t g) (rows after g') k (m .cell) stamped (number (m .clock)) new (takes v m .seat .served)
+          causal.stores (keeperOf (t .tray)) (rows t g) (rows after g') k (m .cell) stamped (number (m .clock)) new (on)
           mine it holds-it here (fate r)
           (keeper-row t z two (takes v m) fits write-answer g'
           (changed-elsewhere (changed g k b) p a k (λ e. two .apart (sym e)) ∙ changed-here g k b)
-          ∙ ap (λ (a : ℕ → ℕ). machine.storing (rows t g k) (machine.stored n (m .word) a) new (takes v m .seat .served)) up)
+          ∙ ap (λ (a : ℕ → ℕ). machine.storing (rows t g k) (machine.stored n (m .word) a) new (on)) up)
           cells;
       serves = serving;
       asker = asker;
