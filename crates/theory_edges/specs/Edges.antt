@@ -11,20 +11,20 @@ use Rattle.theory_lists.specs.Test.{every, some}
 use Rattle.clock.specs.declared.Clock.{Clock}
 use Rattle.clock.specs.Clock.{number, paired, merged, isBefore, isWithin, raised}
 use Rattle.desk.specs.declared.Reply.{Reply}
-use Rattle.desk.specs.Desk.{noMessage, isBlank, keeps, waits}
-use Rattle.desk.specs.Rules.{withClock, eventDone, readRule as readHeld, writeRule}
-use Rattle.desk.specs.Sound.{traySound, rowSound, keeperSound, cellsSound, cellSound, slotSound, slotNames, slotCarries}
-use Rattle.desk.specs.Start.{keepersRight, freshTray, setUpRefusal}
+use Rattle.desk.specs.Desk.{Word, noWord, isNoWord, isBlank, noMessage, keeps, waits, isAsked, isAnswered, isOwn}
+use Rattle.desk.specs.Rules.{withClock, withSeat, seatLines, eventDone, readRule as readHeld, writeRule}
+use Rattle.desk.specs.Sound.{countsSound, placeSound, traySound, cellFits, cellSound, slotSound, slotNames, slotCarries, seatSound}
+use Rattle.desk.specs.Start.{keepersRight, freshTray, setUpLines, setUpRefusal}
 use Rattle.table.specs.declared.Table.{Table}
 use Rattle.table.specs.Choice.{small, event, run, replies}
-use Rattle.table.specs.Rules.{isOwn, isAsked, isAnswered, refusal, outcome, ownRule, done, unless, eventRule}
-use Rattle.table.specs.SetUp.{freshTable, answerSetUp, setUpRule}
-use Rattle.table.specs.Sound.{cellZero, slotZero, rowZero, deskSound, tableSound}
+use Rattle.table.specs.Rules.{lines, refusal, outcome, ownRule, done, eventRule}
+use Rattle.table.specs.SetUp.{freshTable, setUpRule}
+use Rattle.table.specs.Sound.{entrySound, cellsSound, seatsSound, tableSound}
 use Rattle.table.specs.Table.{recordOf, putBack}
 use Rattle.theory_lists.specs.Sum.{sum}
+use Rattle.theory_refusals.specs.Refusals.{firstOf, unless}
 use Rattle.desk.specs.declared.Message.{Message}
 use Rattle.spelling.specs.Bytes.{bytes, followed, spell, numbers}
-use Rattle.theory_refusals.specs.Refusals.{firstOf, unless as refusedOr}
 use Rattle.frame.specs.Frame.{carried, lengthOf, rowOf, messageOf, frameOf, faultLines, readLines, readRule}
 
 -- a clock by its first numbers; the others are 0
@@ -33,16 +33,16 @@ clock ns = record { n = take 8 (ns ++ replicate 8 0) }
 
 -- the small table with its desk's own clock number n
 abbrev smallAt : ℕ → Table
-smallAt n = putBack small (withClock (recordOf small 0) (clock (n ∷ [])))
+smallAt n = let v = recordOf small 0 in putBack small (withSeat v (withClock (v .seat) (clock (n ∷ []))))
 
-abbrev reply : ℕ → ℕ → Reply
+abbrev reply : ℕ → Word → Reply
 reply code value = record { code = code; value = value; count = 0 }
 
 -- what a desk asks: to read, or to write a word
 abbrev readAsked : ℕ → ℕ → ℕ → Message
-readAsked desks desk cell = record { kind = 1; desks = desks; desk = desk; cell = cell; word = 0; clock = clock [] }
+readAsked desks desk cell = record { kind = 1; desks = desks; desk = desk; cell = cell; word = noWord; clock = clock [] }
 
-abbrev writeAsked : ℕ → ℕ → ℕ → ℕ → List ℕ → Message
+abbrev writeAsked : ℕ → ℕ → ℕ → Word → List ℕ → Message
 writeAsked desks desk cell word sent = record { kind = 2; desks = desks; desk = desk; cell = cell; word = word; clock = clock sent }
 
 -- these bytes are the frame of this message: they are written for it, and read as it to the last
@@ -70,7 +70,7 @@ edges =
     ∷ (eventRule small (event 3 0) .reply ≡ reply 13 0)
     -- P8 own clock number 4,294,967,294: a keeper's write is done
     ∷ ((eventRule (smallAt 4294967294) (event 2 7) .reply ≡ reply 0 7)
-    × (number (recordOf (eventRule (smallAt 4294967294) (event 2 7) .after) 0 .clock) 0 ≡ 4294967295))
+    × (number (recordOf (eventRule (smallAt 4294967294) (event 2 7) .after) 0 .seat .clock) 0 ≡ 4294967295))
     -- P9 4,294,967,295: 16
     ∷ (eventRule (smallAt 4294967295) (event 2 7) .reply ≡ reply 16 0)
     -- P10 read asked, 3 desks, desk 0, cell 0
@@ -91,9 +91,9 @@ Hold (p ∷ ps) = p × Hold ps
 
 pub edges-hold : Hold edges
 unfolding edges Hold merged isBefore paired every some sum mapAt isWithin raised
-    setUpRule answerSetUp setUpRefusal keepersRight freshTable freshTray run replies
-    eventRule unless refusal isOwn isAsked isAnswered done ownRule outcome eventDone readHeld writeRule isBlank keeps waits recordOf putBack
-    tableSound deskSound rowSound rowZero traySound keeperSound cellsSound cellSound slotSound slotNames slotCarries cellZero slotZero
-    bytes followed spell numbers firstOf refusedOr carried lengthOf rowOf messageOf frameOf faultLines readLines readRule
+    firstOf unless setUpRule setUpRefusal setUpLines keepersRight freshTable freshTray run replies recordOf putBack
+    eventRule refusal lines seatLines isOwn isAsked isAnswered done ownRule outcome eventDone readHeld writeRule isNoWord isBlank keeps waits
+    tableSound cellsSound seatsSound entrySound traySound countsSound placeSound cellFits cellSound seatSound slotSound slotNames slotCarries
+    bytes followed spell numbers carried lengthOf rowOf messageOf frameOf faultLines readLines readRule
 edges-hold =
     (refl, (refl, (refl, ((refl, refl), (refl, (refl, (refl, ((refl, refl), (refl, ((refl, refl), ((refl, refl), (refl, tt))))))))))))

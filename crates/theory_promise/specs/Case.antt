@@ -6,12 +6,16 @@ use Prim.Native.Nat.{ℕ}
 use lib.ListN.{replicate}
 use Rattle.theory_causal.specs.History.{blank, from, nothing, wrote, showed}
 use Rattle.desk.specs.declared.Event.{Event}
+use Rattle.desk.specs.declared.Plan.{Plan}
 use Rattle.table.specs.Rules.{eventRule}
 use Rattle.theory_promise.specs.Operations.{Account}
-use Rattle.theory_promise.specs.Played.{event, reply, played}
+use Rattle.theory_promise.specs.Played.{event, reply, plan, played}
 use Rattle.theory_promise.specs.Promise.{Explained, demand-3}
 
 -- three desks and two cells: cell 0, the datum, is kept by desk 1, and cell 1, the coordinate, by desk 0
+abbrev pub casePlan : Plan
+casePlan = plan 3 2 (1 ∷ 0 ∷ replicate 30 0)
+
 unfoldable pub script : List Event
 script =
     event 1 0 0 0 ∷ event 3 0 0 0 ∷ event 2 2 0 27 ∷ event 3 2 0 0 ∷ event 4 2 0 0 ∷ event 2 2 1 500 ∷ event 3 2 0 0 ∷ event 4 2 0 0
@@ -19,7 +23,7 @@ script =
 
 unfoldable pub case : Account
 unfolding played
-case = played eventRule 3 2 (1 ∷ 0 ∷ replicate 30 0) script
+case = played eventRule casePlan script
 
 pub case-replies : case .replies ≡
     reply 1 0 0 ∷ reply 0 0 0 ∷ reply 1 0 0 ∷ reply 0 0 0 ∷ reply 0 27 0 ∷ reply 1 0 0 ∷ reply 0 0 0 ∷ reply 0 500 1 ∷ reply 2 0 0
@@ -38,4 +42,4 @@ case-history = refl
 -- and each desk has its order
 pub case-explained : (p : ℕ) → Explained case p
 unfolding case
-case-explained = demand-3 3 2 (1 ∷ 0 ∷ replicate 30 0) refl refl script
+case-explained = demand-3 casePlan refl refl script

@@ -1,88 +1,61 @@
 -- Every event of the table's rules, refused or not, is a move of the machine, and its reply gives what the history says.
 -- Assumes nothing.
 use mathlib.Core.Path.{_≡_, refl, sym}
-use mathlib.Core.Bool.{Bool, true, false, _||_, cond, and-false}
-use mathlib.Core.Logic.{_⊎_, inl, inr, ⊎-elim}
+use mathlib.Core.Bool.{Bool, true, false, and-false}
+use mathlib.Core.Logic.{⊎-elim}
 use Prim.Native.Nat.{ℕ, zero, suc, _≤_, _<_}
 use native.Mathlib.Omega.{arith}
 use borrow.Author.Tests.{ne-eqb}
-use lib.Dec.{eqb, lit≤}
 use Rattle.theory_causal.specs.Facts.{zeros}
-use Rattle.theory_causal.specs.History.{read, Step, nothing, wrote, showed}
+use Rattle.theory_causal.specs.History.{read, Step, nothing}
 use Rattle.theory_causal.specs.Machine as machine
-use Rattle.clock.specs.Clock.{raised}
 use Rattle.desk.specs.declared.Event.{Event}
 use Rattle.desk.specs.declared.Message.{Message}
 use Rattle.desk.specs.declared.Record.{Record}
 use Rattle.desk.specs.declared.Reply.{Reply}
 use Rattle.desk.specs.declared.Slot.{Slot}
-use Rattle.desk.specs.declared.Step as step
-use Rattle.desk.specs.Desk.{noMessage, cellAt, keeps, isBlank}
-use Rattle.desk.specs.Rules.{replied, shownCode, withClock, readAsked, writeAsked, readRule, writeRule, dropRule, eventDone}
-use Rattle.desk.specs.Rules.{readServed, writeServed, serveDone, brings, bringDone}
-use Rattle.desk.specs.Rules as rules
-use Rattle.desk.specs.SoundLaws.{keeps-in}
+use Rattle.desk.specs.Desk.{Word, isNoWord, isBlank, cellAt, keeps, isOwn}
+use Rattle.desk.specs.RuleLaws.{asked-kind, answered-kind}
+use Rattle.desk.specs.Rules.{shownCode, readRule, writeRule, dropRule, seatLines, eventDone, readServed, writeServed, serveDone, bringDone}
+use Rattle.desk.specs.SoundLaws.{keeps-in, is-keeper, no-keeper}
 use Rattle.table.specs.declared.Outcome.{Outcome}
 use Rattle.table.specs.declared.Table.{Table}
 use Rattle.table.specs.Rows.{row-length}
-use Rattle.table.specs.RuleLaws.{asked-kind, answered-kind, Passed, pass, Asks, here, take-asks, bring-asks}
-use Rattle.table.specs.Rules.{refusedWith, isOwn, refusal, outcome, messageOf, ownRule, served, takeRule, bringRule, done, unless, eventRule}
+use Rattle.table.specs.RuleLaws.{Passed, pass, Asks, here, take-asks, bring-asks}
+use Rattle.table.specs.Rules.{lines, refusal, outcome, messageOf, ownRule, putAnswer, keeperStep, takeRule, bringRule, done, refusedWith, eventRule}
 use Rattle.table.specs.SoundLaws.{TableRule, desk-below}
-use Rattle.table.specs.Table.{slotOf, keeperOf, recordOf}
+use Rattle.table.specs.Table.{slotOf, keeperFor, recordOf}
+use Rattle.theory_refusals.specs.Refusals.{numbersFrom, first-from, unless-either}
 use Rattle.theory_promise.specs.Moves.{Moved}
 use Rattle.theory_promise.specs.Moves.Alone.{drop-moved, read-moved, read-asked-moved, write-asked-moved, write-moved}
 use Rattle.theory_promise.specs.Moves.Bring.{bring-read-moved, bring-write-moved}
-use Rattle.theory_promise.specs.Moves.Take.{answer-moved, take-moved}
-use Rattle.theory_promise.specs.Operations.{words, Trails, entry, Shows}
-use Rattle.theory_promise.specs.Room.{Room, Two}
-use Rattle.theory_promise.specs.State.{slotFor, rows, state, slot-kind, is-keeper, no-keeper}
+use Rattle.theory_promise.specs.Moves.Take.{Two, answer-moved, take-moved}
+use Rattle.theory_promise.specs.Operations.{words, Trails, isFinished, entry, Shows}
+use Rattle.theory_promise.specs.Room.{Room}
+use Rattle.theory_promise.specs.State.{clash, slotFor, rows, state, slot-kind}
 
 -- the reply to an event that finished a read gives the word that the history has
 abbrev pub Tied : Step words → Reply → Type 0
 Tied s r = s .kind ≡ read → Shows r (s .word)
 
--- a step that is no read
-untied : (s : Step words) (r : Reply) → (s .kind ≡ read → _≡_ {A = ℕ} 0 1) → Tied s r
-untied s r other k = let z = other k in absurd (omega arith)
-
--- ---- a refusal is no code 0, 1 or 2, so the event is no operation
-large : (b : Bool) (n m : ℕ) → 3 ≤ n → (m ≡ 0) ⊎ (3 ≤ m) → (cond b n m ≡ 0) ⊎ (3 ≤ cond b n m)
-large true n m h i = inr h
-large false n m h i = i
-
-refusal-large : (t : Table) (e : Event) → (refusal t e ≡ 0) ⊎ (3 ≤ refusal t e)
-unfolding refusal
-refusal-large t e = search (large, lit≤, inl) depth 12 fits 4000
-
-refused-entry : (n : ℕ) (g : Trails) (t : Table) (e : Event) (r : Reply) → 3 ≤ r .code → entry n g t e r ≡ (nothing, g)
-unfolding entry
-refused-entry n g t e r h =
-    rw (ne-eqb (r .code) 0 (omega arith), ne-eqb (r .code) 1 (omega arith), ne-eqb (r .code) 2 (omega arith)) (simp and-false)
-
--- ---- the steps that the rules choose between
-abbrev shownStep : Record → ℕ → step.Step
-shownStep v c =
-    replied (shownCode (isBlank (cellAt (v .row) c .word) (cellAt (v .row) c .stamp))) (cellAt (v .row) c .word) 0 noMessage v
-
-abbrev ownStep : Record → (cell word : ℕ) → step.Step
-ownStep v c w = replied 0 w 0 noMessage (rules.stores (withClock v (raised (v .clock) (v .desk))) c w)
-
-abbrev askStep : Record → (cell word : ℕ) → step.Step
-askStep v c w = rules.asks v (writeAsked c w (raised (v .clock) (v .desk)))
-
 -- a read that shows a word is finished, blank or not
-finished : (blank : Bool) → (eqb (shownCode blank) 0 || eqb (shownCode blank) 2) ≡ true
+finished : (blank : Bool) → isFinished (shownCode blank) ≡ true
+unfolding isFinished
 finished true = refl
 finished false = refl
 
+-- a refusal is no code 0, 1 or 2, so the event is no operation
+refused-entry : (n : ℕ) (g : Trails) (t : Table) (e : Event) (r : Reply) → 3 ≤ r .code → entry n g t e r ≡ (nothing, g)
+unfolding entry isFinished
+refused-entry n g t e r h =
+    simp (ne-eqb (r .code) 0 (omega arith), ne-eqb (r .code) 1 (omega arith), ne-eqb (r .code) 2 (omega arith), and-false)
+
 -- a desk holds what it keeps
-holds-kept : (t : Table) → TableRule t → (q c : ℕ) → q < t .tray .desks → keeps (t .tray) q c ≡ true
+holds-kept : (t : Table) → TableRule t → (q c : ℕ) → q < 8 → keeps (t .tray) q c ≡ true
     → cellAt (recordOf t q .row) c .held ≡ true
 unfolding recordOf
 holds-kept t r q c h k =
-    r .row-is q h .cell-is c
-    (omega (arith, keeps-in (t .tray) q c k, r .tray-is .cells-most, row-length t q (r .sized) (desk-below t r q h)))
-    .keeper-holds k
+    r .row-is q h .cell-is c (omega (arith, keeps-in (t .tray) q c k, r .tray-is .cells-most, row-length t q (r .sized) h)) .keeper-holds k
 
 module _ (n : ℕ) (t : Table) (g : Trails) (z : Room t) where
   -- what has to be shown of an event and its outcome
@@ -90,75 +63,68 @@ module _ (n : ℕ) (t : Table) (g : Trails) (z : Room t) where
     pub moved : Moved n t g (o .after) (entry n g t e (o .reply) .1) (entry n g t e (o .reply) .0)
     pub tied : Tied (entry n g t e (o .reply) .0) (o .reply)
 
-  linked-by : (e : Event) (o : Outcome) (m : Step words) (g' : Trails) → entry n g t e (o .reply) ≡ (m, g') → Moved n t g (o .after) g' m
+  linked-by : {e : Event} {o : Outcome} {m : Step words} {g' : Trails} → Moved n t g (o .after) g' m → entry n g t e (o .reply) ≡ (m, g')
       → Tied m (o .reply) → Linked e o
-  linked-by e o m g' i moved tied = record { moved = rw i moved; tied = rw i tied }
+  linked-by moved i tied = record { moved = rw i moved; tied = rw i tied }
 
-  refused-linked : (e : Event) (c : ℕ) → 3 ≤ c → Linked e (refusedWith c t)
+  refused-linked : (e : Event) (c : ℕ) → 3 ≤ c → Linked e (refusedWith t c)
   refused-linked e c h =
-      linked-by e (refusedWith c t) nothing g (refused-entry n g t e (refusedWith c t .reply) h)
-      (record { room = z; learned = zeros; move = machine.refused n (state t g) }) (untied nothing _ (λ k. cc))
+      linked-by (record { room = z; learned = zeros; move = machine.refused n (state t g) })
+      (refused-entry n g t e (refusedWith t c .reply) h) (λ k. clash (cc))
 
-  abbrev event : (kind desk cell word : ℕ) → Event
+  abbrev event : (kind desk cell : ℕ) → Word → Event
   event k p c w = record { kind = k; desk = p; cell = c; word = w }
 
-  module _ (p c w : ℕ) where
-    place : TableRule t → c < t .tray .cells → c < 32
-    place r i = omega (arith, r .tray-is .cells-most)
+  -- what it is to be of an event that is not refused
+  abbrev Done : (kind desk cell : ℕ) → Word → Type 0
+  Done k p c w = Linked (event k p c w) (done t (event k p c w))
+
+  module _ (p c : ℕ) (w : Word) where
+    abbrev v : Record
+    v = recordOf t p
 
     -- ---- 1 Read, 2 Write, 5 Drop
-    read-linked : Passed t (event 1 p c w) → Linked (event 1 p c w) (done t (event 1 p c w))
-    unfolding done ownRule outcome eventDone readRule entry isOwn isBlank recordOf
+    place : TableRule t → c < t .tray .counts .cells → c < 32
+    place r i = omega (arith, r .tray-is .cells-most)
+
+    read-linked : Passed t (event 1 p c w) → Done 1 p c w
+    unfolding done ownRule outcome eventDone readRule entry isFinished isOwn isBlank recordOf
     read-linked a = go (cellAt (v .row) c .held) refl
       where
-        v : Record
-        v = recordOf t p
-
-        go : (b : Bool) → cellAt (v .row) c .held ≡ b
-            → Linked (event 1 p c w) (outcome t (cond b (shownStep v c) (rules.asks v (readAsked c))))
+        go : (b : Bool) → cellAt (v .row) c .held ≡ b → Done 1 p c w
         go true i =
-            linked-by (event 1 p c w) (outcome t (shownStep v c)) (showed p c (cellAt (v .row) c .word) (g p .source c) n) g
-            (rw (finished (eqb (cellAt (v .row) c .word) 0))) (read-moved n t g z p (here t (event 1 p c w) a) c (a .idle refl) i)
-            (λ k. record { value = refl; code = refl })
-        go false i = record {
-          moved = read-asked-moved n t g z p (here t (event 1 p c w) a) c (a .idle refl);
-          tied = untied nothing _ (λ k. cc);
-        }
+            rw i
+            (linked-by (read-moved n t g z p (here t _ a) c (a .seat .idle refl) i) (rw (finished (isNoWord (cellAt (v .row) c .word))))
+            (λ k. record { value = refl; code = refl }))
+        go false i = rw i (linked-by (read-asked-moved n t g z p (here t _ a) c (a .seat .idle refl)) refl (λ k. clash (cc)))
 
-    write-linked : Passed t (event 2 p c w) → Linked (event 2 p c w) (done t (event 2 p c w))
+    write-linked : Passed t (event 2 p c w) → Done 2 p c w
     unfolding done ownRule outcome eventDone writeRule entry isOwn recordOf
     write-linked a = go (keeps (t .tray) p c) refl
       where
-        v : Record
-        v = recordOf t p
+        go : (b : Bool) → keeps (t .tray) p c ≡ b → Done 2 p c w
+        go true i =
+            rw i
+            (linked-by
+            (write-moved n t g z p (here t _ a) c (a .seat .idle refl) w (place (a .sound) (a .seat .in-range refl))
+            (is-keeper (t .tray) p c i) (holds-kept t (a .sound) p c (here t _ a) i))
+            refl (λ k. clash (cc)))
+        go false i = rw i (linked-by (write-asked-moved n t g z p (here t _ a) c (a .seat .idle refl) w) refl (λ k. clash (cc)))
 
-        go : (b : Bool) → keeps (t .tray) p c ≡ b → Linked (event 2 p c w) (outcome t (cond b (ownStep v c w) (askStep v c w)))
-        go true i = record {
-          moved =
-              write-moved n t g z p (here t (event 2 p c w) a) c (a .idle refl) w (place (a .sound) (a .in-range refl))
-              (is-keeper (t .tray) p c i) (holds-kept t (a .sound) p c (a .desk-is) i);
-          tied = untied (wrote p c w n) (ownStep v c w .reply) (λ k. cc);
-        }
-        go false i = record {
-          moved = write-asked-moved n t g z p (here t (event 2 p c w) a) c (a .idle refl) w;
-          tied = untied nothing _ (λ k. cc);
-        }
-
-    drop-linked : Passed t (event 5 p c w) → Linked (event 5 p c w) (done t (event 5 p c w))
+    drop-linked : Passed t (event 5 p c w) → Done 5 p c w
     unfolding done ownRule outcome eventDone dropRule entry isOwn recordOf
-    drop-linked a = record {
-      moved =
-          drop-moved n t g z p (here t (event 5 p c w) a) c (place (a .sound) (a .in-range refl))
-          (no-keeper (t .tray) p c (a .not-kept) (a .in-range refl));
-      tied = untied nothing _ (λ k. cc);
-    }
+    drop-linked a =
+        linked-by
+        (drop-moved n t g z p (here t _ a) c (place (a .sound) (a .seat .in-range refl))
+        (no-keeper (t .tray) p c (a .seat .not-kept refl) (a .seat .in-range refl)))
+        refl (λ k. clash (cc))
 
     -- ---- 3 Take, 4 Bring: the slot is the message
     abbrev s : Slot
     s = slotOf t p
 
     abbrev sent : (kind : ℕ) → Message
-    sent kind = record { kind = kind; desks = t .tray .desks; desk = p; cell = s .cell; word = s .word; clock = s .clock }
+    sent kind = record { kind = kind; desks = t .tray .counts .desks; desk = p; cell = s .cell; word = s .word; clock = s .clock }
 
     full : (kind : ℕ) → s .kind ≡ kind → rows t g p .slot ≡ slotFor kind s (g p .answer)
     unfolding recordOf
@@ -167,63 +133,59 @@ module _ (n : ℕ) (t : Table) (g : Trails) (z : Room t) where
     named : TableRule t → Asks t p → s .cell < 32
     named r q = omega (arith, q .cell-is, r .tray-is .cells-most)
 
-    take-linked : Passed t (event 3 p c w) → Linked (event 3 p c w) (done t (event 3 p c w))
-    unfolding done takeRule served serveDone readServed writeServed rules.takes messageOf recordOf entry slotFor
-    take-linked a = ⊎-elim of-read of-write (asked-kind s (a .asked refl))
+    take-linked : Passed t (event 3 p c w) → Done 3 p c w
+    unfolding done takeRule putAnswer keeperStep serveDone readServed writeServed messageOf recordOf entry slotFor
+    take-linked a = ⊎-elim of-read of-write (asked-kind s (a .seat .asked refl))
       where
         q : Asks t p
-        q = take-asks t (event 3 p c w) a refl
+        q = take-asks t _ a refl
 
-        two : Two (keeperOf t (s .cell)) p
+        two : Two (keeperFor t p) p
         two = record {
-          keeper = desk-below t (a .sound) (keeperOf t (s .cell)) (q .keeper-is);
-          asker = here t (event 3 p c w) a;
+          keeper = desk-below t (a .sound) (keeperFor t p) (q .keeper-is);
+          asker = here t _ a;
           apart = λ e. q .another (sym e);
         }
 
-        had : cellAt (recordOf t (keeperOf t (s .cell)) .row) (s .cell) .held ≡ true
-        had = holds-kept t (a .sound) (keeperOf t (s .cell)) (s .cell) (q .keeper-is) (q .keeps-it)
+        had : cellAt (recordOf t (keeperFor t p) .row) (s .cell) .held ≡ true
+        had = holds-kept t (a .sound) (keeperFor t p) (s .cell) (two .keeper) (q .keeps-it)
 
-        of-read : s .kind ≡ 1 → Linked (event 3 p c w) (done t (event 3 p c w))
+        of-read : s .kind ≡ 1 → Done 3 p c w
         of-read i =
             rw i
-            (linked-by (event 3 p c w) _ nothing _ (rw i)
-            (answer-moved n t g z (keeperOf t (s .cell)) p two (sent 1) refl (named (a .sound) q) had (full 1 i))
-            (untied nothing _ (λ k. cc)))
+            (linked-by (answer-moved n t g z (keeperFor t p) p two (sent 1) refl (named (a .sound) q) had (full 1 i)) (rw i) (λ k. clash (cc)))
 
-        of-write : s .kind ≡ 2 → Linked (event 3 p c w) (done t (event 3 p c w))
+        of-write : s .kind ≡ 2 → Done 3 p c w
         of-write i =
             rw i
-            (linked-by (event 3 p c w) _ (wrote p (s .cell) (s .word) (g p .asked)) _ (rw i)
-            (take-moved n t g z (keeperOf t (s .cell)) p two (sent 2) refl (named (a .sound) q) had
-            (a .sound .row-is (keeperOf t (s .cell)) (q .keeper-is)) (full 2 i))
-            (untied (wrote p (s .cell) (s .word) (g p .asked)) _ (λ k. cc)))
+            (linked-by
+            (take-moved n t g z (keeperFor t p) p two (sent 2) refl (named (a .sound) q) had
+            (a .sound .row-is (keeperFor t p) (two .keeper)) (full 2 i))
+            (rw i) (λ k. clash (cc)))
 
-    bring-linked : Passed t (event 4 p c w) → Linked (event 4 p c w) (done t (event 4 p c w))
-    unfolding done bringRule outcome bringDone brings isBlank messageOf recordOf entry slotFor
-    bring-linked a = ⊎-elim of-read of-write (answered-kind s (a .answered refl))
+    bring-linked : Passed t (event 4 p c w) → Done 4 p c w
+    unfolding done bringRule outcome bringDone isBlank messageOf recordOf entry isFinished slotFor
+    bring-linked a = ⊎-elim of-read of-write (answered-kind s (a .seat .answered refl))
       where
         q : Asks t p
-        q = bring-asks t (event 4 p c w) a refl
+        q = bring-asks t _ a refl
 
-        of-read : s .kind ≡ 3 → Linked (event 4 p c w) (done t (event 4 p c w))
+        of-read : s .kind ≡ 3 → Done 4 p c w
         of-read i =
             rw i
-            (linked-by (event 4 p c w) _ (showed p (s .cell) (s .word) (g p .answer) (g p .asked)) _ (rw (i, finished (eqb (s .word) 0)))
-            (bring-read-moved n t g z p (here t (event 4 p c w) a) (a .sound .row-is p (a .desk-is)) (sent 3) (named (a .sound) q)
-            (q .another) (full 3 i))
-            (λ k. record { value = refl; code = refl }))
+            (linked-by
+            (bring-read-moved n t g z p (here t _ a) (a .sound .row-is p (here t _ a)) (sent 3) (named (a .sound) q) (q .another) (full 3 i))
+            (rw (i, finished (isNoWord (s .word)))) (λ k. record { value = refl; code = refl }))
 
-        of-write : s .kind ≡ 4 → Linked (event 4 p c w) (done t (event 4 p c w))
+        of-write : s .kind ≡ 4 → Done 4 p c w
         of-write i =
             rw i
-            (linked-by (event 4 p c w) _ nothing _ (rw i)
-            (bring-write-moved n t g z p (here t (event 4 p c w) a) (a .sound .row-is p (a .desk-is)) (sent 4) (named (a .sound) q)
-            (q .another) (full 4 i))
-            (untied nothing _ (λ k. cc)))
+            (linked-by
+            (bring-write-moved n t g z p (here t _ a) (a .sound .row-is p (here t _ a)) (sent 4) (named (a .sound) q) (q .another) (full 4 i))
+            (rw i) (λ k. clash (cc)))
 
   -- ---- every event
-  by-kind : (k p c w : ℕ) → Passed t (event k p c w) → Linked (event k p c w) (done t (event k p c w))
+  by-kind : (k p c : ℕ) (w : Word) → Passed t (event k p c w) → Done k p c w
   by-kind zero p c w a = absurd (omega (arith, a .kind .0))
   by-kind (suc zero) p c w a = read-linked p c w a
   by-kind (suc (suc zero)) p c w a = write-linked p c w a
@@ -233,9 +195,8 @@ module _ (n : ℕ) (t : Table) (g : Trails) (z : Room t) where
   by-kind (suc (suc (suc (suc (suc (suc k)))))) p c w a = absurd (omega (arith, a .kind .1))
 
   pub linked : (e : Event) → Linked e (eventRule t e)
-  unfolding eventRule unless
-  linked e = go (refusal t e) refl
-    where
-      go : (c : ℕ) → refusal t e ≡ c → Linked e (unless c t (done t e))
-      go zero i = by-kind (e .kind) (e .desk) (e .cell) (e .word) (pass t e (z .sized) i)
-      go (suc m) i = refused-linked e (suc m) (⊎-elim (λ j. absurd (omega arith)) (λ j. omega arith) (refusal-large t e))
+  unfolding eventRule refusal lines seatLines numbersFrom
+  linked e =
+      unless-either (refusal t e) (refusedWith t) (done t e) (Linked e)
+      (λ some. refused-linked e (refusal t e) (⊎-elim (λ none. absurd (some none)) (λ large. large) (first-from 3 (lines t e) refl)))
+      (λ none. by-kind (e .kind) (e .desk) (e .cell) (e .word) (pass t e (z .sized) none))

@@ -7,10 +7,12 @@ use Rattle.theory_causal.specs.History.{Step}
 use Rattle.theory_causal.specs.Keepers as causal
 use Rattle.theory_causal.specs.Machine.{Desk, Own, Move, alone}
 use Rattle.desk.specs.declared.Record.{Record}
+use Rattle.desk.specs.Desk.{keeperOf}
 use Rattle.table.specs.declared.Table.{Table}
-use Rattle.table.specs.Table.{keeperOf, putBack}
+use Rattle.table.specs.Rows.{put-same, put-other}
+use Rattle.table.specs.Table.{putBack}
 use Rattle.theory_promise.specs.Operations.{words, Trail, Trails}
-use Rattle.theory_promise.specs.Room.{Room, Fits, put-here, put-there, put-room}
+use Rattle.theory_promise.specs.Room.{Room, Fits, put-room}
 use Rattle.theory_promise.specs.State.{cellsOf, rowOf, rows, state, row-is}
 pub mod Alone
 pub mod Bring
@@ -30,13 +32,14 @@ module _ (n : ℕ) (t : Table) (g : Trails) where
   -- Desk p has a new record and a new trail, and the cells that it keeps are as they were.
   pub alone-moved : Room t → (p : ℕ) → p < 8 → (v : Record) (g' : Trails) (b : Trail) → Fits t p v → g' p ≡ b
       → ((q : ℕ) → q ≢ p → g' q ≡ g q) → {o : Step words} {a : ℕ → ℕ} → Becomes p (rowOf v b) o a
-      → ((c : ℕ) → keeperOf t c ≡ p → cellsOf (v .row) (b .source) c ≡ rows t g p .cells c) → Moved (putBack t v) g' o
+      → ((c : ℕ) → keeperOf (t .tray) c ≡ p → cellsOf (v .row) (b .source) c ≡ rows t g p .cells c) → Moved (putBack t v) g' o
   unfolding putBack
   alone-moved z p there v g' b f here rest {a = a} m same = record {
     room = put-room t z p there v f;
     learned = a;
     move =
         alone p m
-        (causal.changes (keeperOf t) (rows t g) (rows (putBack t v) g') p (row-is (putBack t v) g' p (put-here t z p there v f) here)
-        (λ q ne. row-is (putBack t v) g' q (put-there t z p there v f q ne) (rest q ne)) same);
+        (causal.changes (keeperOf (t .tray)) (rows t g) (rows (putBack t v) g') p
+        (row-is (putBack t v) g' p (put-same t p v (z .sized) there (f .same)) here)
+        (λ q ne. row-is (putBack t v) g' q (put-other t p v (z .sized) there (f .same) q ne) (rest q ne)) same);
   }

@@ -2,7 +2,7 @@
 -- "A read is finished when code 0 or 2 gives its word ...". No part of the table: it is told beside it.
 -- Assumes nothing.
 use mathlib.Core.Path.{_≡_}
-use mathlib.Core.Bool.{_&&_, _||_, cond}
+use mathlib.Core.Bool.{Bool, _&&_, _||_, cond}
 use mathlib.Core.List.{List, [], _∷_, _++_}
 use Prim.Native.Nat.{ℕ}
 use lib.Dec.{eqb}
@@ -11,13 +11,14 @@ use Rattle.theory_causal.specs.Changed.{changed}
 use Rattle.theory_causal.specs.History.{Words, Source, blank, from, Step, nothing, wrote, showed}
 use Rattle.desk.specs.declared.Event.{Event}
 use Rattle.desk.specs.declared.Reply.{Reply}
+use Rattle.desk.specs.Desk.{Word, noWord, isNoWord}
 use Rattle.table.specs.declared.Outcome.{Outcome}
 use Rattle.table.specs.declared.Table.{Table}
-use Rattle.table.specs.Table.{slotOf, keeperOf}
+use Rattle.table.specs.Table.{slotOf, keeperFor}
 
--- the words of cells: numbers, and 0 where none was written
+-- the words of cells, and the one that stands where none was written
 abbrev pub words : Words
-words = record { Word = ℕ; noWord = 0 }
+words = record { Word = Word; noWord = noWord }
 
 -- Beside each desk: which write each held cell's word comes from, which one the answer in its slot, and the step at which it asked.
 pub record Trail : Type 0 where
@@ -37,16 +38,19 @@ waiting b n = record { source = b .source; answer = b .answer; asked = n }
 abbrev pub Trails : Type 0
 Trails = (desk : ℕ) → Trail
 
+-- "A read is finished when code 0 or 2 gives its word."
+unfoldable pub isFinished : (code : ℕ) → Bool
+isFinished code = eqb code 0 || eqb code 2
+
 -- What an event at step n adds to the history, and the trails after it, as its kind, its reply and the desk's slot before it tell.
 unfoldable pub entry : (n : ℕ) → Trails → Table → Event → Reply → Step words × Trails
 entry n g t e r =
     let p = e .desk in
     let c = e .cell in
     let s = slotOf t p in
-    let k = keeperOf t (s .cell) in
-    let finished = eqb (r .code) 0 || eqb (r .code) 2 in
+    let k = keeperFor t p in
     -- a read of a held cell is finished
-    cond (eqb (e .kind) 1 && finished) (showed p c (r .value) (g p .source c) n, g)
+    cond (eqb (e .kind) 1 && isFinished (r .code)) (showed p c (r .value) (g p .source c) n, g)
     -- a keeper stores its own write
     (cond (eqb (e .kind) 2 && eqb (r .code) 0) (wrote p c (e .word) n, changed g p (holding (g p) c (from n)))
     -- a read or a write is asked
@@ -56,7 +60,7 @@ entry n g t e r =
     (cond (eqb (e .kind) 3 && eqb (r .code) 0)
     (wrote p (s .cell) (s .word) (g p .asked), changed (changed g k (holding (g k) (s .cell) (from n))) p (answered (g p) (from n)))
     -- a bring: an asked read is finished, or the answer to a write has arrived
-    (cond (eqb (e .kind) 4 && finished) (
+    (cond (eqb (e .kind) 4 && isFinished (r .code)) (
       cond (eqb (s .kind) 3) (showed p (s .cell) (r .value) (g p .answer) (g p .asked)) nothing,
       changed g p (holding (g p) (s .cell) (g p .answer)),
     )
@@ -76,10 +80,10 @@ noReply = record { code = 0; value = 0; count = 0 }
 abbrev pub repliedAt : Account → (step : ℕ) → Reply
 repliedAt a x = getD (a .replies) x noReply
 
--- the reply gives this word: with code 2 if it is 0, else with code 0
-pub record Shows (r : Reply) (word : ℕ) : Type 0 where
+-- the reply gives this word: with code 2 if it is none, else with code 0
+pub record Shows (r : Reply) (word : Word) : Type 0 where
   pub value : r .value ≡ word
-  pub code : r .code ≡ cond (eqb word 0) 2 0
+  pub code : r .code ≡ cond (isNoWord word) 2 0
 
 -- before the first event no word comes from a write
 abbrev pub opened : Table → Account

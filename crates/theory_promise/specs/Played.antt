@@ -6,33 +6,37 @@ use native.Mathlib.Decide.{ℕ-discrete, decLt, decLe}
 use Rattle.theory_causal.specs.Changed.{changed, either}
 use Rattle.clock.specs.Clock.{paired, merged, isBefore, isWithin, raised}
 use Rattle.desk.specs.declared.Event.{Event}
+use Rattle.desk.specs.declared.Plan.{Plan}
 use Rattle.desk.specs.declared.Reply.{Reply}
-use Rattle.desk.specs.Desk.{keeps, isCopy, isBlank, isLost, leftOf, lossOf, waits}
-use Rattle.desk.specs.Rules.{readRule, writeRule, dropRule, eventDone, readServed, takes, writeServed, serveDone, brings, bringDone}
-use Rattle.desk.specs.Sound.{keeperSound, traySound, cellSound, cellsSound, slotNames, slotCarries, slotSound, rowSound}
-use Rattle.desk.specs.Start.{keepersRight, freshTray, setUpRefusal}
+use Rattle.desk.specs.Desk.{Word, isNoWord, isBlank, keeps, isCopy, isLost, leftOf, lossOf, waits, isAsked, isAnswered, isOwn}
+use Rattle.desk.specs.Rules.{readRule, writeRule, dropRule, seatLines, eventDone, readServed, takes, writeServed, serveDone, brings, bringDone}
+use Rattle.desk.specs.Sound.{countsSound, placeSound, traySound, cellFits, cellSound, slotNames, slotCarries, slotSound, seatSound}
+use Rattle.desk.specs.Start.{freshTray, keepersRight, setUpLines, setUpRefusal}
 use Rattle.theory_lists.specs.Each.{mapAt}
 use Rattle.theory_lists.specs.Sum.{sum}
 use Rattle.theory_lists.specs.Test.{every, some}
+use Rattle.theory_refusals.specs.Refusals.{firstOf, unless}
 use Rattle.table.specs.declared.Outcome.{Outcome}
 use Rattle.table.specs.declared.Table.{Table}
-use Rattle.table.specs.Rules.{isOwn, isAsked, isAnswered, refusal, outcome, messageOf, ownRule, served, takeRule, bringRule}
-use Rattle.table.specs.Rules.{done, unless, eventRule}
-use Rattle.table.specs.SetUp.{freshTable, answerSetUp, setUpRule}
-use Rattle.table.specs.Sound.{cellZero, slotZero, rowZero, deskSound, tableSound}
-use Rattle.table.specs.Table.{recordOf, putBack, withSlotOf}
-use Rattle.theory_promise.specs.Operations.{entry, Account, opened, next, run}
+use Rattle.table.specs.Rules.{lines, refusal, outcome, messageOf, ownRule, putAnswer, keeperStep, takeRule, bringRule, done, eventRule}
+use Rattle.table.specs.SetUp.{freshTable, setUpRule}
+use Rattle.table.specs.Sound.{entrySound, cellsSound, seatsSound, tableSound}
+use Rattle.table.specs.Table.{recordOf, putBack}
+use Rattle.theory_promise.specs.Operations.{isFinished, entry, Account, opened, next, run}
 
-abbrev pub event : (kind desk cell word : ℕ) → Event
+abbrev pub event : (kind desk cell : ℕ) → Word → Event
 event k p c w = record { kind = k; desk = p; cell = c; word = w }
 
-abbrev pub reply : (code value count : ℕ) → Reply
+abbrev pub reply : (code : ℕ) → (value : Word) → (count : ℕ) → Reply
 reply c v n = record { code = c; value = v; count = n }
 
-unfoldable pub played : (rule : Table → Event → Outcome) → (desks cells : ℕ) → (keepers : List ℕ) → List Event → Account
-unfolding run next entry changed either ℕ-discrete decLt decLe paired merged isBefore isWithin raised keeps isCopy isBlank
-    isLost leftOf lossOf waits readRule writeRule dropRule eventDone readServed takes writeServed serveDone brings bringDone keeperSound
-    traySound cellSound cellsSound slotNames slotCarries slotSound rowSound mapAt sum every some isOwn isAsked isAnswered refusal outcome
-    messageOf ownRule served takeRule bringRule done unless eventRule keepersRight freshTray freshTable setUpRefusal answerSetUp setUpRule
-    cellZero slotZero rowZero deskSound tableSound recordOf putBack withSlotOf
-played rule desks cells keepers events = run rule (opened (setUpRule desks cells keepers .table)) events
+abbrev pub plan : (desks cells : ℕ) → (keepers : List ℕ) → Plan
+plan desks cells keepers = record { desks = desks; cells = cells; keepers = keepers }
+
+unfoldable pub played : (rule : Table → Event → Outcome) → Plan → List Event → Account
+unfolding run next entry isFinished changed either ℕ-discrete decLt decLe paired merged isBefore isWithin raised isNoWord isBlank keeps
+    isCopy isLost leftOf lossOf waits isAsked isAnswered isOwn readRule writeRule dropRule seatLines eventDone readServed takes
+    writeServed serveDone brings bringDone countsSound placeSound traySound cellFits cellSound slotNames slotCarries slotSound seatSound
+    freshTray keepersRight setUpLines setUpRefusal mapAt sum every some firstOf unless lines refusal outcome messageOf ownRule putAnswer
+    keeperStep takeRule bringRule done eventRule freshTable setUpRule entrySound cellsSound seatsSound tableSound recordOf putBack
+played rule p events = run rule (opened (setUpRule p .table)) events

@@ -9,6 +9,7 @@ use Rattle.theory_causal.specs.Demand.{Before, InTurn, Order}
 use Rattle.theory_causal.specs.History.{History, listed, ReadBy, wordOf}
 use Rattle.theory_causal.specs.Run as machine
 use Rattle.desk.specs.declared.Event.{Event}
+use Rattle.desk.specs.declared.Plan.{Plan}
 use Rattle.table.specs.declared.Outcome.{Outcome}
 use Rattle.table.specs.declared.Table.{Table}
 use Rattle.table.specs.Rules.{eventRule}
@@ -31,16 +32,16 @@ pub record Explained (a : Account) (p : ℕ) : Type 0 where
   -- Each reply that finished a read of p's gave the word of the write that the read came from, or blank where it came from none.
   pub shown : (x : ℕ) → ReadBy (historyOf a) p x → Shows (repliedAt a x) (wordOf (historyOf a) (historyOf a x .source))
 
--- Demand 3 of a rule for events: every set-up that is not refused, every list of events, with any numbers in them, and every desk.
+-- Demand 3 of a rule for events: every plan that set-up does not refuse, every list of events, with any numbers in them, and every desk.
 abbrev pub Demand3 : (rule : Table → Event → Outcome) → Type 0
 Demand3 rule =
-    (desks cells : ℕ) (keepers : List ℕ) → length keepers ≡ 32 → setUpRule desks cells keepers .code ≡ 0
-    → (events : List Event) (p : ℕ) → Explained (run rule (opened (setUpRule desks cells keepers .table)) events) p
+    (plan : Plan) → length (plan .keepers) ≡ 32 → setUpRule plan .code ≡ 0
+    → (events : List Event) (p : ℕ) → Explained (run rule (opened (setUpRule plan .table)) events) p
 
 -- The table's rule keeps it.
 pub demand-3 : Demand3 eventRule
-demand-3 desks cells keepers long ok events p =
-    let r = runs-from desks cells keepers long ok events in
+demand-3 plan long ok events p =
+    let r = runs-from plan long ok events in
     let (steps, order, in-turn) = machine.demand-3 (r .runs) p in
     record {
       steps = steps;

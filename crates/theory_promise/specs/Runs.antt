@@ -1,25 +1,28 @@
 -- Every run of the table's rules, from any set-up that is not refused, is a run of the machine, and its replies give what its history says.
 -- Assumes nothing.
-use mathlib.Core.Path.{_≡_, refl, sym, ap, subst₂, _∙_}
+use mathlib.Core.Path.{_≡_, refl, sym, subst₂}
 use mathlib.Core.List.{List, [], _∷_, _++_}
-use Prim.Native.Nat.{ℕ, zero, suc}
+use Prim.Native.Nat.{ℕ}
 use native.Mathlib.Decide.{decLt, ℕ-discrete}
 use native.Mathlib.Omega.{arith}
 use lib.ListN.{length, getD, length-append, List·getD-append, List·getD-eq-default}
 use lib.Seq.{getD-append-seam}
-use Rattle.theory_causal.specs.History.{quiet, read, Step, nothing, listed}
+use Rattle.theory_causal.specs.History.{Step, nothing, listed}
 use Rattle.theory_causal.specs.Machine as machine
 use Rattle.desk.specs.declared.Event.{Event}
+use Rattle.desk.specs.declared.Plan.{Plan}
 use Rattle.desk.specs.declared.Reply.{Reply}
 use Rattle.desk.specs.Start.{freshTray, setUpRefusal}
+use Rattle.table.specs.declared.SetUp.{SetUp}
 use Rattle.table.specs.Fresh.{fresh-sized}
 use Rattle.table.specs.Rules.{eventRule}
-use Rattle.table.specs.SetUp.{freshTable, answerSetUp, setUpRule}
+use Rattle.table.specs.SetUp.{freshTable, notSetUp, setUpRule}
+use Rattle.theory_refusals.specs.Refusals.{unless-either}
 use Rattle.theory_promise.specs.Link.{Tied, linked}
 use Rattle.theory_promise.specs.Operations.{words, entry, Account, noReply, repliedAt, opened, next, run}
 use Rattle.theory_promise.specs.Room.{Room}
 use Rattle.theory_promise.specs.Start.{start, fresh-clocks}
-use Rattle.theory_promise.specs.State.{state}
+use Rattle.theory_promise.specs.State.{clash, state}
 
 -- what holds of a run so far
 pub record Runs (a : Account) : Type 0 where
@@ -29,9 +32,6 @@ pub record Runs (a : Account) : Type 0 where
   pub tied : (x : ℕ) → Tied (listed (a .history) x) (repliedAt a x)
 
 -- ---- one event more
-quiet-read : quiet ≡ read → ⊥
-quiet-read e = let z : _≡_ {A = ℕ} 0 1 = cc in omega arith
-
 seam : {A : Type 0} (l : List A) (a d : A) (x : ℕ) → x ≡ length l → getD (l ++ (a ∷ [])) x d ≡ a
 seam l a d x e = rw e (getD-append-seam l a [] d)
 
@@ -50,7 +50,7 @@ module _ (h : List (Step words)) (l : List Reply) (o : Step words) (r : Reply) (
           | yes e ↦ (let f : x ≡ length l = omega arith in subst₂ Tied (sym (seam h o nothing x e)) (sym (seam l r d x f)) new)
           | no ne ↦ (
               let past = List·getD-eq-default (h ++ (o ∷ [])) nothing {n = x} (omega (arith, length-append h (o ∷ []))) in
-              λ k. absurd (quiet-read (ap (λ (s : Step words). s .kind) (sym past) ∙ k)))
+              λ k. clash (cc past))
         ]
       ]
 
@@ -71,22 +71,18 @@ runs-all a [] r = r
 runs-all a (e ∷ es) r = runs-all (next eventRule a e) es (runs-next a e r)
 
 -- ---- from a set-up that is not refused
-module _ (desks cells : ℕ) (keepers : List ℕ) (long : length keepers ≡ 32) where
-  is-fresh : (n : ℕ) → answerSetUp n (freshTable (freshTray desks cells keepers)) .code ≡ 0
-      → answerSetUp n (freshTable (freshTray desks cells keepers)) .table ≡ freshTable (freshTray desks cells keepers)
-  unfolding answerSetUp
-  is-fresh zero e = refl
-  is-fresh (suc n) e = absurd (omega (arith, e))
-
-  runs-fresh : Runs (opened (freshTable (freshTray desks cells keepers)))
+module _ (p : Plan) (long : length (p .keepers) ≡ 32) where
+  runs-fresh : Runs (opened (freshTable (freshTray p)))
   runs-fresh = record {
-    room = record { sized = fresh-sized desks cells keepers long; clocks = fresh-clocks (freshTray desks cells keepers) };
-    runs = machine.start (start (freshTray desks cells keepers));
+    room = record { sized = fresh-sized p long; clocks = fresh-clocks (freshTray p) };
+    runs = machine.start (start (freshTray p));
     long = refl;
-    tied = λ x k. absurd (quiet-read k);
+    tied = λ x k. clash (cc);
   }
 
-  pub runs-from : setUpRule desks cells keepers .code ≡ 0 → (events : List Event)
-      → Runs (run eventRule (opened (setUpRule desks cells keepers .table)) events)
+  pub runs-from : setUpRule p .code ≡ 0 → (events : List Event) → Runs (run eventRule (opened (setUpRule p .table)) events)
   unfolding setUpRule
-  runs-from e events = runs-all _ events (rw (is-fresh (setUpRefusal desks cells keepers) e) runs-fresh)
+  runs-from ok events =
+      runs-all _ events
+      (unless-either (setUpRefusal p) notSetUp (record { code = 0; table = freshTable (freshTray p) })
+      (λ (s : SetUp). s .code ≡ 0 → Runs (opened (s .table))) (λ some ok. absurd (some ok)) (λ none ok. runs-fresh) ok)

@@ -17,24 +17,26 @@ use Rattle.theory_causal.specs.History.{blank, from, Step, nothing, wrote, show
 use Rattle.clock.specs.Clock.{merged}
 use Rattle.desk.specs.declared.Event.{Event}
 use Rattle.desk.specs.declared.Message.{Message}
+use Rattle.desk.specs.declared.Plan.{Plan}
 use Rattle.desk.specs.declared.Record.{Record}
 use Rattle.desk.specs.Desk.{noCell, noSlot, cellAt}
-use Rattle.desk.specs.Rules.{learns, holds, withClock, withSlot, brought, brings, bringDone}
+use Rattle.desk.specs.Rules.{learns, holds, withClock, withSeat, slotted, brought, brings, bringDone}
 use Rattle.table.specs.declared.Outcome.{Outcome}
 use Rattle.table.specs.declared.Table.{Table}
-use Rattle.table.specs.Rules.{refusal, messageOf, outcome, bringRule, done, unless, eventRule}
+use Rattle.table.specs.Rules.{refusal, messageOf, outcome, bringRule, done, refusedWith, eventRule}
 use Rattle.table.specs.SetUp.{setUpRule}
 use Rattle.table.specs.Table.{recordOf, putBack}
-use Rattle.theory_promise.specs.Case.{script}
-use Rattle.theory_promise.specs.Operations.{words, run}
-use Rattle.theory_promise.specs.Played.{event, played}
+use Rattle.theory_refusals.specs.Refusals.{unless}
+use Rattle.theory_promise.specs.Case.{casePlan, script}
+use Rattle.theory_promise.specs.Operations.{words}
+use Rattle.theory_promise.specs.Played.{event, plan, played}
 use Rattle.theory_promise.specs.Promise.{Demand3}
 
 -- the table's rule with something else done to the desk's record at a bring
 module _ (bringing : Record → Message → Record) where
   unfoldable pub withBring : Table → Event → Outcome
   withBring t e =
-      unless (refusal t e) t
+      unless (refusal t e) (refusedWith t)
       (cond (eqb (e .kind) 4)
       (record { reply = done t e .reply; after = putBack t (bringing (recordOf t (e .desk)) (messageOf t (e .desk))) })
       (done t e))
@@ -42,30 +44,30 @@ module _ (bringing : Record → Message → Record) where
 -- with nothing else done it is the table's rule
 pub right : (t : Table) (e : Event) → withBring brings t e ≡ eventRule t e
 unfolding withBring eventRule done bringRule outcome bringDone
-right t e = ap (unless (refusal t e) t) (elim (ℕ-discrete (e .kind) 4) [ yes i ↦ rw i | no ne ↦ rw (ne-eqb (e .kind) 4 ne) ])
+right t e = ap (unless (refusal t e) (refusedWith t)) (elim (ℕ-discrete (e .kind) 4) [ yes i ↦ rw i | no ne ↦ rw (ne-eqb (e .kind) 4 ne) ])
 
 -- Keeping an answer that arrives after the desk served a write.
 unfoldable pub keepsServed : Record → Message → Record
-keepsServed v m = withSlot (holds (learns (holds v (m .cell) noCell) (m .clock)) (m .cell) (brought false m)) noSlot false
+keepsServed v m = slotted (holds (learns (holds v (m .cell) noCell) (m .clock)) (m .cell) (brought false m)) noSlot
 
 -- Dropping nothing when a write's answer arrives.
 unfoldable pub dropsNothing : Record → Message → Record
 dropsNothing v m =
     cond (eqb (m .kind) 4)
-    (withSlot (holds (withClock v (merged (v .clock) (m .clock))) (m .cell) (brought (v .served) m)) noSlot false)
+    (slotted (holds (withSeat v (withClock (v .seat) (merged (v .seat .clock) (m .clock)))) (m .cell) (brought (v .seat .served) m)) noSlot)
     (brings v m)
 
 -- Leaving the desk's old copy when its own write was answered with *served* on.
 unfoldable pub leavesCopy : Record → Message → Record
-leavesCopy v m = cond (eqb (m .kind) 4 && v .served) (holds (brings v m) (m .cell) (cellAt (v .row) (m .cell))) (brings v m)
+leavesCopy v m = cond (eqb (m .kind) 4 && v .seat .served) (holds (brings v m) (m .cell) (cellAt (v .row) (m .cell))) (brings v m)
 
 -- ---- a run whose history has no order for desk p
-module _ (rule : Table → Event → Outcome) (keepers : List ℕ) (events : List Event) (h : List (Step words)) (desks cells p : ℕ) where
-  broken : length keepers ≡ 32 → setUpRule desks cells keepers .code ≡ 0 → played rule desks cells keepers events .history ≡ h
+module _ (rule : Table → Event → Outcome) (from-plan : Plan) (events : List Event) (h : List (Step words)) (p : ℕ) where
+  broken : length (from-plan .keepers) ≡ 32 → setUpRule from-plan .code ≡ 0 → played rule from-plan events .history ≡ h
       → ((l : List ℕ) → Order (listed h) p l → ⊥) → Demand3 rule → ⊥
   unfolding played
   broken long ok is none d =
-      let x = d desks cells keepers long ok events p in
+      let x = d from-plan long ok events p in
       none (x .steps) (subst (λ (a : List (Step words)). Order (listed a) p (x .steps)) is (x .order))
 
 -- 01's whole case: desk 0 holds the blank datum of its first answer, sees coordinate 500, and reads the blank again.
@@ -77,7 +79,7 @@ first =
 pub keeps-served-breaks : Demand3 (withBring keepsServed) → ⊥
 unfolding played withBring keepsServed script first
 keeps-served-breaks =
-    broken (withBring keepsServed) (1 ∷ 0 ∷ replicate 30 0) script first 3 2 0 refl refl refl
+    broken (withBring keepsServed) casePlan script first 0 refl refl refl
     (λ l o.
     late o 3 10 (refl, refl) (refl, refl) refl
     (chain (chain (then (listed first) 3 6 (inl refl) (inl refl) refl (omega arith)) (shown {w = 6} {x = 9} refl refl refl))
@@ -94,10 +96,10 @@ second =
 pub drops-nothing-breaks : Demand3 (withBring dropsNothing) → ⊥
 unfolding played withBring dropsNothing second Nearest
 drops-nothing-breaks =
-    broken (withBring dropsNothing) (0 ∷ 0 ∷ 1 ∷ replicate 29 0)
+    broken (withBring dropsNothing) (plan 2 3 (0 ∷ 0 ∷ 1 ∷ replicate 29 0))
     (event 1 1 0 0 ∷ event 3 1 0 0 ∷ event 4 1 0 0 ∷ event 2 0 0 11 ∷ event 2 0 1 12 ∷ event 2 0 2 13 ∷ event 2 1 1 14 ∷ event 3 1 0 0
     ∷ event 4 1 0 0 ∷ event 1 1 0 0 ∷ event 3 0 0 0 ∷ event 1 1 2 0 ∷ event 1 1 1 0 ∷ [])
-    second 2 3 1 refl refl refl
+    second 1 refl refl refl
     (λ l o.
     let causal = o .explains .causal in
     let datum-first : Before 3 4 l = causal 3 4 (inl refl) (inl refl) (then (listed second) 3 4 (inl refl) (inl refl) refl (omega arith)) in
@@ -106,7 +108,8 @@ drops-nothing-breaks =
     (chain (chain (then (listed second) 4 10 (inl refl) (inl refl) refl (omega arith)) (shown {w = 10} {x = 11} refl refl refl))
     (then (listed second) 11 12 (inr refl) (inr refl) refl (omega arith))) in
     let own-last : Before 7 9 l = causal 7 9 (inl refl) (inr (refl, refl)) (then (listed second) 7 9 (inl refl) (inr refl) refl (omega arith)) in
-    let overwritten : Before 4 7 l = ⊎-elim (λ e. absurd (omega (arith, e))) (λ b. b) (o .explains .nearest 12 (refl, refl) .2 4 (refl, refl) old-seen) in
+    let overwritten : Before 4 7 l =
+    ⊎-elim (λ e. absurd (omega (arith, e))) (λ b. b) (o .explains .nearest 12 (refl, refl) .2 4 (refl, refl) old-seen) in
     o .explains .nearest 9 (refl, refl) 3 (refl, refl) (through 3 7 9 l (o .once) (through 3 4 7 l (o .once) datum-first overwritten) own-last))
 
 -- Desk 0 keeps cell 0 and desk 1 cell 1. Desk 1 writes 27 in cell 0 and then 28, and serves a write of desk 0's before the second answer,
@@ -118,7 +121,7 @@ third =
 pub leaves-copy-breaks : Demand3 (withBring leavesCopy) → ⊥
 unfolding played withBring leavesCopy third wordOf
 leaves-copy-breaks =
-    broken (withBring leavesCopy) (0 ∷ 1 ∷ replicate 30 0)
+    broken (withBring leavesCopy) (plan 2 2 (0 ∷ 1 ∷ replicate 30 0))
     (event 2 0 1 5 ∷ event 2 1 0 27 ∷ event 3 1 0 0 ∷ event 4 1 0 0 ∷ event 2 1 0 28 ∷ event 3 1 0 0 ∷ event 3 0 0 0 ∷ event 4 1 0 0
     ∷ event 1 1 0 0 ∷ [])
-    third 2 2 1 refl refl refl (λ l o. omega (arith, o .explains .word 8 (refl, refl)))
+    third 1 refl refl refl (λ l o. omega (arith, o .explains .word 8 (refl, refl)))

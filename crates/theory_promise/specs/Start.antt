@@ -3,7 +3,7 @@
 use mathlib.Core.Path.{_≡_, refl, ap, fun-ext, _∙_}
 use mathlib.Core.Bool.{Bool, true, false}
 use mathlib.Core.List.{List}
-use Prim.Native.Nat.{ℕ, _+_, _*_, _≤_, _<_, zero-le}
+use Prim.Native.Nat.{ℕ, _+_, _*_, _/_, _%_, _≤_, _<_, zero-le}
 use native.Mathlib.Decide.{decLt}
 use native.Mathlib.Omega.{arith}
 use lib.ListN.{length, getD, replicate, length-replicate, getD-replicate, take, length-take, length-drop, List·getD-eq-default}
@@ -12,18 +12,18 @@ use Rattle.theory_causal.specs.Facts.{zeros}
 use Rattle.theory_causal.specs.History.{blank}
 use Rattle.theory_causal.specs.Keepers as causal
 use Rattle.theory_causal.specs.Machine.{Held, held, empty, unwritten, Start}
-use Rattle.theory_causal.specs.Machine as machine
 use Rattle.clock.specs.declared.Clock.{Clock}
 use Rattle.clock.specs.Clock.{number, zeroClock}
 use Rattle.clock.specs.Laws.{zero-past}
 use Rattle.desk.specs.declared.Cell.{Cell}
-use Rattle.desk.specs.declared.Slot.{Slot}
+use Rattle.desk.specs.declared.Seat.{Seat}
 use Rattle.desk.specs.declared.Tray.{Tray}
-use Rattle.desk.specs.Desk.{noCell, noSlot, pastEnd, cellAt}
+use Rattle.desk.specs.Desk.{noWord, noCell, noSeat, pastCell, pastSeat, cellAt, keeperOf, keeps, heldCell}
 use Rattle.theory_lists.specs.Each.{mapAt, length-mapAt, getD-mapAt}
 use Rattle.theory_lists.specs.Part.{getD-slice}
+use Rattle.theory_lists.specs.Test.{whichever}
 use Rattle.table.specs.SetUp.{freshCell, freshTable}
-use Rattle.table.specs.Table.{pastClock, pastSlot, keeperOf, recordOf}
+use Rattle.table.specs.Table.{recordOf}
 use Rattle.theory_promise.specs.Operations.{words, opened}
 use Rattle.theory_promise.specs.State.{heldOf, cellOf, slotFor, state, held-cell, gone-cell, is-held}
 
@@ -46,7 +46,7 @@ cut P f n l d past all c =
           past
     ]
 
--- ---- words of 0 and clocks of zeros
+-- ---- words of none and clocks of zeros
 abbrev Zero : Clock → Type 0
 Zero k = number k ≡ zeros
 
@@ -54,7 +54,7 @@ zero-clock : Zero zeroClock
 zero-clock = fun-ext (λ j. zero-past 0 j zero-le)
 
 abbrev Blank : Cell → Type 0
-Blank x = (x .word ≡ 0) × Zero (x .stamp)
+Blank x = (x .word ≡ noWord) × Zero (x .stamp)
 
 blank-held : (x : Cell) (g : Held words) → Blank x → cellOf x blank ≡ held g → g ≡ unwritten
 blank-held x g b e = is-held x blank g e .1 ∙ (λ i. record { source = blank; word = b .0 i; stamp = b .1 i })
@@ -72,28 +72,29 @@ module _ (t : Tray) where
   abbrev entries : List Cell
   entries = mapAt (λ i _. freshCell t i) (replicate 256 noCell)
 
-  entry : (k : ℕ) → Blank (getD entries k pastEnd)
+  entry : (k : ℕ) → Blank (getD entries k pastCell)
   entry k =
       elim (decLt k (length (replicate 256 noCell))) [
-        | yes h ↦ rw (getD-mapAt (λ i _. freshCell t i) (replicate 256 noCell) k pastEnd pastEnd h) (refl, zero-clock)
+        | yes h ↦ rw (getD-mapAt (λ i _. freshCell t i) (replicate 256 noCell) k pastCell pastCell h)
+            (whichever Blank (keeps t (k / 32) (k % 32)) (heldCell noWord zeroClock) noCell (refl, zero-clock) (refl, zero-clock))
         | no h ↦ rw
-            (List·getD-eq-default entries pastEnd {n = k} (omega (arith, length-mapAt (λ i _. freshCell t i) (replicate 256 noCell))))
+            (List·getD-eq-default entries pastCell {n = k} (omega (arith, length-mapAt (λ i _. freshCell t i) (replicate 256 noCell))))
             (refl, refl)
       ]
 
   blank-cell : (p c : ℕ) → Blank (cellAt (recordOf (freshTable t) p .row) c)
   unfolding recordOf freshTable
-  blank-cell p = cut Blank (p * 32) 32 entries pastEnd (refl, refl) entry
+  blank-cell p = cut Blank (p * 32) 32 entries pastCell (refl, refl) entry
 
   pub start : Start (state (freshTable t) (opened (freshTable t) .trails))
   unfolding recordOf freshTable slotFor
   start = record {
-    clock = filled Zero 8 zeroClock pastClock zero-clock refl;
-    slot = filled (λ (s : Slot). slotFor (s .kind) s blank ≡ empty) 8 noSlot pastSlot refl refl;
+    clock = filled (λ (s : Seat). Zero (s .clock)) 8 noSeat pastSeat zero-clock refl;
+    slot = filled (λ (s : Seat). slotFor (s .slot .kind) (s .slot) blank ≡ empty) 8 noSeat pastSeat refl refl;
     cells = λ p c g. blank-held (cellAt (recordOf (freshTable t) p .row) c) g (blank-cell p c);
-    last = λ c. let k = keeperOf (freshTable t) c in blank-contents (cellAt (recordOf (freshTable t) k .row) c) (blank-cell k c);
+    last = λ c. let k = keeperOf t c in blank-contents (cellAt (recordOf (freshTable t) k .row) c) (blank-cell k c);
   }
 
-  pub fresh-clocks : (p : ℕ) → p < 8 → 8 ≤ length (recordOf (freshTable t) p .clock .n)
+  pub fresh-clocks : (p : ℕ) → p < 8 → 8 ≤ length (recordOf (freshTable t) p .seat .clock .n)
   unfolding recordOf freshTable
-  fresh-clocks p h = rw (getD-replicate 8 p zeroClock pastClock h) (omega arith)
+  fresh-clocks p h = rw (getD-replicate 8 p noSeat pastSeat h) (omega arith)

@@ -7,9 +7,9 @@ use mathlib.Core.List.{List}
 use Prim.Native.Nat.{ℕ, zero, suc, _<_}
 use native.Mathlib.Decide.{ℕ-discrete, decLt}
 use native.Mathlib.Omega.{arith}
-use borrow.Author.Tests.{eqb-true, eq-eqb, lt-ltb, not-true, not-false}
-use lib.Dec.{ltb, eqb}
-use lib.ListN.{length, getD, set, List·getD-eq-default}
+use borrow.Author.Tests.{eqb-true, not-true, not-false}
+use lib.Dec.{eqb}
+use lib.ListN.{length, set, length-set, List·getD-eq-default}
 use lib.Seq.{getD-set-same, getD-set-other}
 use Rattle.theory_causal.specs.Changed.{changed, changed-here, changed-elsewhere}
 use Rattle.theory_causal.specs.History.{Source}
@@ -23,16 +23,20 @@ use Rattle.desk.specs.declared.Cell.{Cell}
 use Rattle.desk.specs.declared.Record.{Record}
 use Rattle.desk.specs.declared.Slot.{Slot}
 use Rattle.desk.specs.declared.Tray.{Tray}
-use Rattle.desk.specs.Desk.{noCell, pastEnd, cellAt, keeps, isCopy, isLost, leftAt, leftOf, waits}
-use Rattle.desk.specs.SoundLaws.{RowRule, no-way}
+use Rattle.desk.specs.Desk.{Word, noCell, pastCell, cellAt, keeperOf, keeps, isCopy, isLost, leftAt, leftOf, waits}
+use Rattle.desk.specs.SoundLaws.{RowRule, is-keeper, no-keeper, no-way}
 use Rattle.theory_lists.specs.Each.{getD-mapAt, length-mapAt}
 use Rattle.theory_lists.specs.Test.{fails, both, both-left, both-right}
 use Rattle.table.specs.declared.Table.{Table}
-use Rattle.table.specs.Table.{keeperOf, recordOf}
+use Rattle.table.specs.Table.{recordOf}
 use Rattle.theory_promise.specs.Operations.{words, Trail, Trails}
 
+-- what cannot be: two constructors that are one
+pub clash : {A : Type 0} → _≡_ {A = ℕ} 0 1 → A
+clash z = absurd (omega arith)
+
 -- ---- the state
-abbrev pub heldOf : Source → (word : ℕ) → Clock → Held words
+abbrev pub heldOf : Source → Word → Clock → Held words
 heldOf s w k = record { source = s; word = w; stamp = number k }
 
 unfoldable pub cellOf : Cell → Source → machine.Cell words
@@ -51,10 +55,10 @@ cellsOf row source c = cellOf (cellAt row c) (source c)
 
 abbrev pub rowOf : Record → Trail → Desk words
 rowOf v b = record {
-  clock = number (v .clock);
+  clock = number (v .seat .clock);
   cells = cellsOf (v .row) (b .source);
-  slot = slotFor (v .slot .kind) (v .slot) (b .answer);
-  served = v .served;
+  slot = slotFor (v .seat .slot .kind) (v .seat .slot) (b .answer);
+  served = v .seat .served;
   asked = b .asked;
 }
 
@@ -62,7 +66,7 @@ abbrev pub rows : Table → Trails → ℕ → Desk words
 rows t g p = rowOf (recordOf t p) (g p)
 
 abbrev pub state : Table → Trails → State words
-state t g = causal.table (keeperOf t) (rows t g)
+state t g = causal.table (keeperOf (t .tray)) (rows t g)
 
 pub row-is : (t : Table) (g : Trails) (q : ℕ) {v : Record} {b : Trail} → recordOf t q ≡ v → g q ≡ b → rows t g q ≡ rowOf v b
 row-is t g q {v} e f = ap (λ (u : Record). rowOf u (g q)) e ∙ ap (rowOf v) f
@@ -104,46 +108,32 @@ is-held x s g e = go (x .held) refl
   where
     go : (b : Bool) → x .held ≡ b → (x .held ≡ true) × (g ≡ heldOf s (x .word) (x .stamp))
     go true p = (p, cc (held-cell x s p))
-    go false p = let z : _≡_ {A = ℕ} 0 1 = cc (gone-cell x s p) in absurd (omega arith)
+    go false p = clash (cc (gone-cell x s p))
 
 -- one place of a row is now x, from s
 module _ (row : List Cell) (source : ℕ → Source) (c : ℕ) (x : Cell) (s : Source) where
-  pub set-here : c < length row → cellsOf (set row c x) (changed source c s) c ≡ cellOf x s
-  set-here h = rw (getD-set-same row c x pastEnd h, changed-here source c s)
+  pub set-here : c < length (set row c x) → cellsOf (set row c x) (changed source c s) c ≡ cellOf x s
+  set-here h = rw (getD-set-same row c x pastCell (omega (arith, length-set row c x)), changed-here source c s)
 
   pub set-there : (b : ℕ) → b ≢ c → cellsOf (set row c x) (changed source c s) b ≡ cellsOf row source b
-  set-there b ne = rw (getD-set-other row c b x pastEnd ne, changed-elsewhere source c s b ne)
+  set-there b ne = rw (getD-set-other row c b x pastCell ne, changed-elsewhere source c s b ne)
 
 -- what is left of a row, at each place
 pub left-at : (t : Tray) (p : ℕ) (k : Clock) (row : List Cell) (b : ℕ) → cellAt (leftOf t p k row) b ≡ leftAt t p k b (cellAt row b)
 unfolding leftOf isLost isCopy
 left-at t p k row b =
     elim (decLt b (length row)) [
-      | yes h ↦ getD-mapAt (leftAt t p k) row b pastEnd pastEnd h
-      | no h ↦ List·getD-eq-default (leftOf t p k row) pastEnd (omega (arith, length-mapAt (leftAt t p k) row))
-          ∙ ap (leftAt t p k b) (sym (List·getD-eq-default row pastEnd (omega arith)))
+      | yes h ↦ getD-mapAt (leftAt t p k) row b pastCell pastCell h
+      | no h ↦ List·getD-eq-default (leftOf t p k row) pastCell (omega (arith, length-mapAt (leftAt t p k) row))
+          ∙ ap (leftAt t p k b) (sym (List·getD-eq-default row pastCell (omega arith)))
     ]
 
--- ---- keepers
-module _ (t : Tray) (p c : ℕ) where
-  pub is-keeper : keeps t p c ≡ true → getD (t .keepers) c 0 ≡ p
-  unfolding keeps
-  is-keeper e = eqb-true (getD (t .keepers) c 0) p (both-right (ltb c (t .cells)) (eqb (getD (t .keepers) c 0) p) e)
-
-  pub no-keeper : keeps t p c ≡ false → c < t .cells → getD (t .keepers) c 0 ≢ p
-  unfolding keeps
-  no-keeper e h k = no-way (keeps t p c) (both (lt-ltb c (t .cells) h) (eq-eqb (getD (t .keepers) c 0) p k)) e
-
-  pub keeper-keeps : getD (t .keepers) c 0 ≡ p → c < t .cells → keeps t p c ≡ true
-  unfolding keeps
-  keeper-keeps k h = both (lt-ltb c (t .cells) h) (eq-eqb (getD (t .keepers) c 0) p k)
-
 -- a held cell is one of the table's
-pub held-in : (v : Record) → RowRule v → (c : ℕ) → cellAt (v .row) c .held ≡ true → c < v .tray .cells
+pub held-in : (v : Record) → RowRule v → (c : ℕ) → cellAt (v .row) c .held ≡ true → c < v .tray .counts .cells
 held-in v r c e =
     elim (decLt c (length (v .row))) [
-      | yes h ↦ r .cell-is c h .in-range e
-      | no h ↦ no-way false (rw (List·getD-eq-default (v .row) pastEnd {n = c} (omega arith)) at e) refl
+      | yes h ↦ r .cell-is c h .used e .1
+      | no h ↦ no-way false (rw (List·getD-eq-default (v .row) pastCell {n = c} (omega arith)) at e) refl
     ]
 
 -- ---- fates
@@ -155,16 +145,16 @@ module _ (keeper : ℕ → ℕ) (rows : ℕ → Desk words) (p : ℕ) (a : ℕ �
 
 -- a cell of a desk that learned clock k
 module _ (t : Table) (g : Trails) (p : ℕ) (r : RowRule (recordOf t p)) (k : Clock) (new : ℕ → machine.Cell words) (b : ℕ) where
-  pub fate-left : new b ≡ cellOf (leftAt (t .tray) p k b (cellAt (recordOf t p .row) b)) (g p .source b)
-      → causal.Fate (keeperOf t) (rows t g) p (number k) new b
+  fate-left : new b ≡ cellOf (leftAt (t .tray) p k b (cellAt (recordOf t p .row) b)) (g p .source b)
+      → causal.Fate (keeperOf (t .tray)) (rows t g) p (number k) new b
   unfolding recordOf isLost isCopy cellOf
   fate-left e =
       let x = cellAt (recordOf t p .row) b in
       go x (held-in (recordOf t p) r b) refl (isLost (t .tray) p k b x) refl e
     where
-      go : (x : Cell) → (x .held ≡ true → b < t .tray .cells) → rows t g p .cells b ≡ cellOf x (g p .source b)
+      go : (x : Cell) → (x .held ≡ true → b < t .tray .counts .cells) → rows t g p .cells b ≡ cellOf x (g p .source b)
           → (y : Bool) → isLost (t .tray) p k b x ≡ y → new b ≡ cellOf (cond y noCell x) (g p .source b)
-          → causal.Fate (keeperOf t) (rows t g) p (number k) new b
+          → causal.Fate (keeperOf (t .tray)) (rows t g) p (number k) new b
       go x in-range old true i e =
           let copy : (x .held && not (keeps (t .tray) p b)) ≡ true = search both-left in
           causal.lost
@@ -172,7 +162,7 @@ module _ (t : Table) (g : Trails) (p : ℕ) (r : RowRule (recordOf t p)) (k : Cl
           (in-range (both-left (x .held) (not (keeps (t .tray) p b)) copy)))
           e
       go x in-range old false i e =
-          fate-same (keeperOf t) (rows t g) p (number k) new b (e ∙ sym old)
+          fate-same (keeperOf (t .tray)) (rows t g) p (number k) new b (e ∙ sym old)
           (λ ne h eq early.
           let was = is-held x (g p .source b) h (sym old ∙ eq) in
           let mine = fails (keeps (t .tray) p b) (λ q. ne (is-keeper (t .tray) p b q)) in
@@ -180,3 +170,11 @@ module _ (t : Table) (g : Trails) (p : ℕ) (r : RowRule (recordOf t p)) (k : Cl
           no-way (isLost (t .tray) p k b x)
           (both (both (was .0) (ap not mine)) (is-before (x .stamp) k (early' .1 .0) (early' .0) (early' .1 .1)))
           i)
+
+-- Desk p learned clock k, and then its cell c became x, from s; what was left is of the desk's row, whatever stood at c.
+pub fate-learned : (t : Table) (g : Trails) (p : ℕ) → RowRule (recordOf t p) → (k : Clock) (row : List Cell) (c : ℕ) (x : Cell) (s : Source)
+    → ((b : ℕ) → b ≢ c → cellAt row b ≡ cellAt (recordOf t p .row) b) → (b : ℕ) → b ≢ c
+    → causal.Fate (keeperOf (t .tray)) (rows t g) p (number k) (cellsOf (set (leftOf (t .tray) p k row) c x) (changed (g p .source) c s)) b
+fate-learned t g p r k row c x s same b ne =
+    fate-left t g p r k (cellsOf (set (leftOf (t .tray) p k row) c x) (changed (g p .source) c s)) b
+    (set-there (leftOf (t .tray) p k row) (g p .source) c x s b ne ∙ rw (left-at (t .tray) p k row b, same b ne))
