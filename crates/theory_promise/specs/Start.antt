@@ -6,8 +6,7 @@ use mathlib.Core.List.{List}
 use Prim.Native.Nat.{ℕ, _+_, _*_, _/_, _%_, _≤_, _<_, zero-le}
 use native.Mathlib.Decide.{decLt}
 use native.Mathlib.Omega.{arith}
-use lib.ListN.{length, getD, replicate, length-replicate, getD-replicate, take, length-take, length-drop, List·getD-eq-default}
-use lib.Seq.{slice}
+use lib.ListN.{length, getD, replicate, getD-replicate, take, length-take, length-drop, List·getD-eq-default}
 use Rattle.theory_causal.specs.Facts.{zeros}
 use Rattle.theory_causal.specs.History.{blank}
 use Rattle.theory_causal.specs.Keepers as causal
@@ -20,33 +19,19 @@ use Rattle.desk.specs.declared.Seat.{Seat}
 use Rattle.desk.specs.declared.Tray.{Tray}
 use Rattle.desk.specs.Desk.{noWord, noCell, noSeat, pastCell, pastSeat, cellAt, keeperOf, keeps, heldCell}
 use Rattle.theory_lists.specs.Each.{mapAt, length-mapAt, getD-mapAt}
-use Rattle.theory_lists.specs.Part.{getD-slice}
 use Rattle.theory_lists.specs.Test.{whichever}
 use Rattle.table.specs.SetUp.{freshCell, freshTable}
-use Rattle.table.specs.Table.{recordOf}
+use Rattle.table.specs.SoundLaws.{entry-is}
+use Rattle.table.specs.Table.{seatOf, recordOf}
 use Rattle.theory_promise.specs.Operations.{words, opened}
 use Rattle.theory_promise.specs.State.{heldOf, cellOf, slotFor, state, held-cell, gone-cell, is-held}
 
--- what the places of a list that is filled with one thing have in common with what stands past its end
-filled : {A : Type 0} (P : A → Type 0) (n : ℕ) (x d : A) → P x → P d → (k : ℕ) → P (getD (replicate n x) k d)
-filled P n x d here past k =
-    elim (decLt k n) [
-      | yes h ↦ rw (getD-replicate n k x d h) here
-      | no h ↦ rw (List·getD-eq-default (replicate n x) d {n = k} (omega (arith, length-replicate n x))) past
-    ]
+-- what holds of each entry of a list and of what stands past its end holds at any place
+anywhere : {A : Type 0} (P : A → Type 0) (l : List A) (d : A) → P d → ((k : ℕ) → k < length l → P (getD l k d)) → (k : ℕ) → P (getD l k d)
+anywhere P l d past all k =
+    elim (decLt k (length l)) [ yes h ↦ all k h | no h ↦ rw (List·getD-eq-default l d {n = k} (omega arith)) past ]
 
--- the same of a part of a list
-cut : {A : Type 0} (P : A → Type 0) (f n : ℕ) (l : List A) (d : A) → P d → ((k : ℕ) → P (getD l k d))
-    → (c : ℕ) → P (getD (slice f (f + n) l) c d)
-cut P f n l d past all c =
-    elim (decLt c n) [
-      | yes h ↦ rw (getD-slice f (f + n) l c d (omega arith)) (all (f + c))
-      | no h ↦ rw
-          (List·getD-eq-default (slice f (f + n) l) d {n = c} (omega (arith, length-drop f (take (f + n) l), length-take (f + n) l)))
-          past
-    ]
-
--- ---- words of none and clocks of zeros
+-- ---- no word, and a clock of zeros
 abbrev Zero : Clock → Type 0
 Zero k = number k ≡ zeros
 
@@ -73,24 +58,32 @@ module _ (t : Tray) where
   entries = mapAt (λ i _. freshCell t i) (replicate 256 noCell)
 
   entry : (k : ℕ) → Blank (getD entries k pastCell)
-  entry k =
-      elim (decLt k (length (replicate 256 noCell))) [
-        | yes h ↦ rw (getD-mapAt (λ i _. freshCell t i) (replicate 256 noCell) k pastCell pastCell h)
-            (whichever Blank (keeps t (k / 32) (k % 32)) (heldCell noWord zeroClock) noCell (refl, zero-clock) (refl, zero-clock))
-        | no h ↦ rw
-            (List·getD-eq-default entries pastCell {n = k} (omega (arith, length-mapAt (λ i _. freshCell t i) (replicate 256 noCell))))
-            (refl, refl)
-      ]
+  entry =
+      anywhere Blank entries pastCell (refl, refl)
+      (λ k h.
+      rw
+      (getD-mapAt (λ i _. freshCell t i) (replicate 256 noCell) k pastCell pastCell
+      (omega (arith, length-mapAt (λ i _. freshCell t i) (replicate 256 noCell))))
+      (whichever Blank (keeps t (k / 32) (k % 32)) (heldCell noWord zeroClock) noCell (refl, zero-clock) (refl, zero-clock)))
 
   blank-cell : (p c : ℕ) → Blank (cellAt (recordOf (freshTable t) p .row) c)
   unfolding recordOf freshTable
-  blank-cell p = cut Blank (p * 32) 32 entries pastCell (refl, refl) entry
+  blank-cell p =
+      anywhere Blank (recordOf (freshTable t) p .row) pastCell (refl, refl)
+      (λ c h.
+      rw
+      (entry-is (freshTable t) p c (omega (arith, length-drop (p * 32) (take (p * 32 + 32) entries), length-take (p * 32 + 32) entries)))
+      (entry (p * 32 + c)))
+
+  seat : (P : Seat → Type 0) → P pastSeat → P noSeat → (p : ℕ) → P (seatOf (freshTable t) p)
+  unfolding freshTable
+  seat P past here = anywhere P (replicate 8 noSeat) pastSeat past (λ p h. rw (getD-replicate 8 p noSeat pastSeat h) here)
 
   pub start : Start (state (freshTable t) (opened (freshTable t) .trails))
   unfolding recordOf freshTable slotFor
   start = record {
-    clock = filled (λ (s : Seat). Zero (s .clock)) 8 noSeat pastSeat zero-clock refl;
-    slot = filled (λ (s : Seat). slotFor (s .slot .kind) (s .slot) blank ≡ empty) 8 noSeat pastSeat refl refl;
+    clock = seat (λ s. Zero (s .clock)) refl zero-clock;
+    slot = seat (λ s. slotFor (s .slot .kind) (s .slot) blank ≡ empty) refl refl;
     cells = λ p c g. blank-held (cellAt (recordOf (freshTable t) p .row) c) g (blank-cell p c);
     last = λ c. let k = keeperOf t c in blank-contents (cellAt (recordOf (freshTable t) k .row) c) (blank-cell k c);
   }

@@ -119,7 +119,7 @@ module _ (row : List Cell) (source : ℕ → Source) (c : ℕ) (x : Cell) (s : S
   set-there b ne = rw (getD-set-other row c b x pastCell ne, changed-elsewhere source c s b ne)
 
 -- what is left of a row, at each place
-pub left-at : (t : Tray) (p : ℕ) (k : Clock) (row : List Cell) (b : ℕ) → cellAt (leftOf t p k row) b ≡ leftAt t p k b (cellAt row b)
+left-at : (t : Tray) (p : ℕ) (k : Clock) (row : List Cell) (b : ℕ) → cellAt (leftOf t p k row) b ≡ leftAt t p k b (cellAt row b)
 unfolding leftOf isLost isCopy
 left-at t p k row b =
     elim (decLt b (length row)) [
@@ -129,7 +129,7 @@ left-at t p k row b =
     ]
 
 -- a held cell is one of the table's
-pub held-in : (v : Record) → RowRule v → (c : ℕ) → cellAt (v .row) c .held ≡ true → c < v .tray .counts .cells
+held-in : (v : Record) → RowRule v → (c : ℕ) → cellAt (v .row) c .held ≡ true → c < v .tray .counts .cells
 held-in v r c e =
     elim (decLt c (length (v .row))) [
       | yes h ↦ r .cell-is c h .used e .1
@@ -171,7 +171,7 @@ module _ (t : Table) (g : Trails) (p : ℕ) (r : RowRule (recordOf t p)) (k : Cl
           (both (both (was .0) (ap not mine)) (is-before (x .stamp) k (early' .1 .0) (early' .0) (early' .1 .1)))
           i)
 
--- Desk p learned clock k, and then its cell c became x, from s; what was left is of the desk's row, whatever stood at c.
+-- Desk p learned clock k, with a row that was its own but perhaps at c, and then its cell c became x, from s.
 pub fate-learned : (t : Table) (g : Trails) (p : ℕ) → RowRule (recordOf t p) → (k : Clock) (row : List Cell) (c : ℕ) (x : Cell) (s : Source)
     → ((b : ℕ) → b ≢ c → cellAt row b ≡ cellAt (recordOf t p .row) b) → (b : ℕ) → b ≢ c
     → causal.Fate (keeperOf (t .tray)) (rows t g) p (number k) (cellsOf (set (leftOf (t .tray) p k row) c x) (changed (g p .source) c s)) b
