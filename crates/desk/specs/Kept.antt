@@ -106,7 +106,7 @@ full-rule t desk s least most u e p =
     }
 
 -- ---- what may happen to a row
-holds-row : (v : Record) (c : ℕ) (x : Cell) → RowRule v → CellRule (v .tray) (v .desk) c x → RowRule (holds v c x)
+pub holds-row : (v : Record) (c : ℕ) (x : Cell) → RowRule v → CellRule (v .tray) (v .desk) c x → RowRule (holds v c x)
 holds-row v c x r new =
     record { cell-is = places-set (CellRule (v .tray) (v .desk)) pastCell (v .row) c x new (r .cell-is); seat-is = r .seat-is }
 

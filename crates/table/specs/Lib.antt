@@ -1,6 +1,8 @@
+pub mod Changes
 pub mod Choice
 pub mod Equal
 pub mod Fresh
+pub mod InPlace
 pub mod Kept
 pub mod Rows
 pub mod RuleLaws
