@@ -18,7 +18,7 @@ use Rattle.desk.specs.declared.Record.{Record}
 use Rattle.desk.specs.declared.Reply.{Reply}
 use Rattle.desk.specs.declared.Seat.{Seat}
 use Rattle.desk.specs.declared.Step.{Step}
-use Rattle.desk.specs.Own.{changeOf, askedFor, askingSeat, raisedSeat, ownReply}
+use Rattle.desk.specs.Parts.{changeOf, askedFor, askingSeat, raisedSeat, readReply, writeReply, ownReply, tookSeat, answeredSeat, homeSeat, broughtCell, broughtReply}
 use Rattle.desk.specs.Desk.{Word, noWord, isBlank, noCell, noSlot, pastCell, cellAt, keeps, heldCell, isCopy, leftAt, leftOf, lossOf, answerKind, isOwn}
 use Rattle.desk.specs.Kept.{holds-row, no-cell-rule}
 use Rattle.desk.specs.RuleLaws.{own-is, asked-kind}
@@ -68,14 +68,6 @@ unfolding storeIn
 store-in t d c s w z h i =
     ap (λ (u : Table). withCell u (d * 32 + c) (heldCell w (s .clock))) (seat-put t d z h s)
     ∙ cell-then t d z h (withSeat (recordOf t d) s) (seat-same (recordOf t d) s) c (heldCell w (s .clock)) i
-
--- ---- 3 Take
--- the keeper's seat once it has taken a write, and the asker's with its answer
-abbrev pub tookSeat : Seat → Clock → Seat
-tookSeat s sent = withClock (markedServed s) (merged (s .clock) sent)
-
-abbrev pub answeredSeat : Seat → Cell → Seat
-answeredSeat s x = withSlot s (record { kind = answerKind (s .slot .kind); cell = s .slot .cell; word = x .word; clock = x .stamp }) (s .served)
 
 unfoldable pub takeWriteIn : Table → ℕ → ℕ → Seat → Table
 takeWriteIn t k c s = storeIn (lostOf t k (s .slot .clock)) k c (tookSeat (seatOf t k) (s .slot .clock)) (s .slot .word)
@@ -204,13 +196,6 @@ module _ (t : Table) (e : Event) (a : Passed t e) (k : e .kind ≡ 3) where
       ))
       (asked-kind (slotOf t d) (a .seat .asked k))
 
--- ---- 4 Bring
-abbrev pub homeSeat : Seat → Clock → Seat
-homeSeat s stamp = withSlot (withClock s (merged (s .clock) stamp)) noSlot false
-
-abbrev pub broughtCell : Bool → Word → Clock → Cell
-broughtCell served word stamp = cond served noCell (heldCell word stamp)
-
 -- the table without the named cell
 abbrev pub without : Table → ℕ → Table
 without t d = withCell t (d * 32 + slotOf t d .cell) noCell
@@ -228,7 +213,7 @@ bringCount t d = lostCount (without t d) d (slotOf t d .clock)
 abbrev pub bringReply : Table → ℕ → Reply
 bringReply t d =
     let s = slotOf t d in
-    record { code = shownCode (eqb (s .kind) 3 && isBlank (s .word) (s .clock)); value = s .word; count = bringCount t d }
+    broughtReply (s .kind) (s .word) (s .clock) (bringCount t d)
 
 module _ (t : Table) (e : Event) (a : Passed t e) (k : e .kind ≡ 4) where
   abbrev own : Record
@@ -338,7 +323,7 @@ module _ (t : Table) (e : Event) (a : Passed t e) (o : isOwn e ≡ true) where
   z0 = a .sound .sized
 
   read-is : e .kind ≡ 1 → Is (ownIn t e) (ownReply kept x e)
-  unfolding ownIn ownReply ownRule outcome eventDone readRule changeOf askedFor recordOf
+  unfolding ownIn ownReply readReply ownRule outcome eventDone readRule changeOf askedFor recordOf
   read-is k = go (x .held) refl
     where
       go : (b : Bool) → x .held ≡ b → Is (ownIn t e) (ownReply kept x e)
@@ -348,7 +333,7 @@ module _ (t : Table) (e : Event) (a : Passed t e) (o : isOwn e ≡ true) where
           (seat-put t (e .desk) z0 (here t e a) (withSlot (seatOf t (e .desk)) (readAsked (e .cell)) false), refl)
 
   write-is : e .kind ≡ 2 → Is (ownIn t e) (ownReply kept x e)
-  unfolding ownIn ownReply ownRule outcome eventDone writeRule changeOf askedFor recordOf
+  unfolding ownIn ownReply writeReply ownRule outcome eventDone writeRule changeOf askedFor recordOf
   write-is k = go kept refl
     where
       go : (b : Bool) → kept ≡ b → Is (ownIn t e) (ownReply kept x e)

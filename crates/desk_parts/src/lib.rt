@@ -1,0 +1,253 @@
+// What a desk's steps make of a seat and of a cell, by value. Record and table are thin functions over these.
+ghost use mathlib.Core.Path.{_≡_};
+ghost use Prim.Native.Nat.{_+_, _*_, _<_};
+ghost use Rattle.clock.specs.Clock.{number, raised};
+ghost use Rattle.desk.specs.Desk.{heldCell, isBlank, oneIf};
+ghost use Rattle.desk.specs.Parts.{changeOf, askedFor, askingSeat, raisedSeat, readReply, writeReply, ownReply, tookSeat, answeredSeat, homeSeat, broughtCell, broughtReply, losesIf};
+ghost use Rattle.desk.specs.Rules.{shownCode};
+use clock::Clock;
+use desk::Cell;
+use desk::Event;
+use desk::Reply;
+use desk::Seat;
+use desk::Slot;
+use desk::sound::is_no_word;
+use desk::sound::waits;
+
+// Where desk d's cell c stands in a table.
+pub fn at(d: usize, c: usize) -> usize
+    requires { ⌜ (d < 8) × (c < 32) ⌝ }
+    ensures { λ r. ⌜ r ≡ d * 32 + c ⌝ }
+{
+    d * 32 + c
+}
+
+fn is_blank(word: u32, stamp: Clock) -> bool
+    ensures { λ r. ⌜ r ≡ isBlank word stamp ⌝ }
+{
+    is_no_word(word)
+}
+
+fn shown_code(blank: bool) -> u32
+    ensures { λ r. ⌜ r ≡ shownCode blank ⌝ }
+{
+    if blank { 2 } else { 0 }
+}
+
+fn one_if(test: bool) -> u32
+    ensures { λ r. ⌜ r ≡ oneIf test ⌝ }
+{
+    if test { 1 } else { 0 }
+}
+
+// Whether a copy is lost to a learnt clock.
+pub fn is_lost(kept: bool, learnt: Clock, x: Cell) -> bool
+    ensures { λ r. ⌜ r ≡ losesIf kept learnt x ⌝ }
+{
+    if !x.held | kept {
+        return false;
+    }
+    let stamp = x.stamp;
+    stamp.before(learnt)
+}
+
+// What an own event changes: 0 nothing, 1 the desk asks, 2 it stores, 3 it gives up.
+pub fn change_of(kept: bool, x: Cell, e: Event) -> u8
+    ensures { λ r. ⌜ r ≡ changeOf kept x e ⌝ }
+{
+    let kind = e.kind;
+    if kind == 1 {
+        return if x.held { 0 } else { 1 };
+    }
+    if kind == 2 {
+        return if kept { 2 } else { 1 };
+    }
+    3
+}
+
+// The reply to it.
+pub fn own_reply(kept: bool, x: Cell, e: Event) -> Reply
+    ensures { λ r. ⌜ r ≡ ownReply kept x e ⌝ }
+{
+    let kind = e.kind;
+    if kind == 1 {
+        return read_reply(x);
+    }
+    if kind == 2 {
+        return write_reply(kept, e.word);
+    }
+    Reply {
+        code: 0,
+        value: 0,
+        count: one_if(x.held & !kept),
+    }
+}
+
+fn read_reply(x: Cell) -> Reply
+    ensures { λ r. ⌜ r ≡ readReply x ⌝ }
+{
+    if x.held {
+        return Reply {
+            code: shown_code(is_blank(x.word, x.stamp)),
+            value: x.word,
+            count: 0,
+        };
+    }
+    Reply {
+        code: 1,
+        value: 0,
+        count: 0,
+    }
+}
+
+fn write_reply(kept: bool, word: u32) -> Reply
+    ensures { λ r. ⌜ r ≡ writeReply kept word ⌝ }
+{
+    if kept {
+        return Reply {
+            code: 0,
+            value: word,
+            count: 0,
+        };
+    }
+    Reply {
+        code: 1,
+        value: 0,
+        count: 0,
+    }
+}
+
+fn next(clock: Clock, desk: usize) -> Clock
+    requires { ⌜ (desk < 8) × (number clock desk ≡ 4294967295 → ⊥) ⌝ }
+    ensures { λ r. ⌜ r ≡ raised clock desk ⌝ }
+{
+    let mut next = clock;
+    next.n[desk] = next.n[desk] + 1;
+    next
+}
+
+// The request of a read or a write.
+fn asked_for(s: Seat, desk: usize, e: Event) -> Slot
+    requires { ⌜ (desk < 8) × (e .cell < 32) × (e .kind ≡ 2 → number (s .clock) desk ≡ 4294967295 → ⊥) × ((e .kind ≡ 1 → ⊥) → e .kind ≡ 2) ⌝ }
+    ensures { λ r. ⌜ r ≡ askedFor s desk e ⌝ }
+{
+    let kind = e.kind;
+    if kind == 1 {
+        return Slot {
+            kind: 1,
+            cell: e.cell as u8,
+            word: 0,
+            clock: Clock::ZERO,
+        };
+    }
+    let clock = next(s.clock, desk);
+    Slot {
+        kind: 2,
+        cell: e.cell as u8,
+        word: e.word,
+        clock,
+    }
+}
+
+// The seat of a desk that asks.
+pub fn asking(s: Seat, desk: usize, e: Event) -> Seat
+    requires { ⌜ (desk < 8) × (e .cell < 32) × (e .kind ≡ 2 → number (s .clock) desk ≡ 4294967295 → ⊥) × ((e .kind ≡ 1 → ⊥) → e .kind ≡ 2) ⌝ }
+    ensures { λ r. ⌜ r ≡ askingSeat s desk e ⌝ }
+{
+    let slot = asked_for(s, desk, e);
+    let mut after = s;
+    after.slot = slot;
+    after.served = false;
+    after
+}
+
+// The seat of a keeper that writes: its own number is one higher.
+pub fn raising(s: Seat, desk: usize) -> Seat
+    requires { ⌜ (desk < 8) × (number (s .clock) desk ≡ 4294967295 → ⊥) ⌝ }
+    ensures { λ r. ⌜ r ≡ raisedSeat s desk ⌝ }
+{
+    let clock = next(s.clock, desk);
+    let mut after = s;
+    after.clock = clock;
+    after
+}
+
+// A word stored under the seat's clock.
+pub fn storing(s: Seat, word: u32) -> Cell
+    ensures { λ r. ⌜ r ≡ heldCell word (s .clock) ⌝ }
+{
+    let stamp = s.clock;
+    Cell {
+        held: true,
+        word,
+        stamp,
+    }
+}
+
+// The keeper's seat once it has taken a write: it learns the sent clock, and *served* goes on if it waits.
+pub fn took(s: Seat, sent: Clock) -> Seat
+    ensures { λ r. ⌜ r ≡ tookSeat s sent ⌝ }
+{
+    let clock = s.clock.merge(sent);
+    let served = s.served | waits(s.slot);
+    let mut after = s;
+    after.clock = clock;
+    after.served = served;
+    after
+}
+
+// The asker's seat, with what the keeper's cell answers.
+pub fn answering(s: Seat, x: Cell) -> Seat
+    requires { ⌜ s .slot .kind < 3 ⌝ }
+    ensures { λ r. ⌜ r ≡ answeredSeat s x ⌝ }
+{
+    let clock = x.stamp;
+    let asked = s.slot;
+    let slot = Slot {
+        kind: asked.kind + 2,
+        cell: asked.cell,
+        word: x.word,
+        clock,
+    };
+    let mut after = s;
+    after.slot = slot;
+    after
+}
+
+// The cell that an answer names, once it is brought: held unless the desk served a write meanwhile.
+pub fn brought(served: bool, word: u32, stamp: Clock) -> Cell
+    ensures { λ r. ⌜ r ≡ broughtCell served word stamp ⌝ }
+{
+    if served {
+        return Cell::NONE;
+    }
+    Cell {
+        held: true,
+        word,
+        stamp,
+    }
+}
+
+// The seat of a desk that has its answer.
+pub fn home(s: Seat, stamp: Clock) -> Seat
+    ensures { λ r. ⌜ r ≡ homeSeat s stamp ⌝ }
+{
+    let clock = s.clock.merge(stamp);
+    let empty = Slot::NONE;
+    let mut after = s;
+    after.clock = clock;
+    after.slot = empty;
+    after.served = false;
+    after
+}
+
+pub fn bring_reply(kind: u8, word: u32, stamp: Clock, count: u32) -> Reply
+    ensures { λ r. ⌜ r ≡ broughtReply kind word stamp count ⌝ }
+{
+    let blank = (kind == 3) & is_blank(word, stamp);
+    Reply {
+        code: shown_code(blank),
+        value: word,
+        count,
+    }
+}
