@@ -1,4 +1,5 @@
 pub mod Each
+pub mod Or
 pub mod Part
 pub mod Replaced
 pub mod Sum
