@@ -7,14 +7,14 @@ use lib.Bits.{bitOr}
 use lib.Dec.{ltb, leb, eqb}
 use lib.ListN.{drop}
 use Rattle.clock.specs.declared.Clock.{Clock}
-use Rattle.clock.specs.Clock.{zeroClock, paired}
+use Rattle.clock.specs.Clock.{zeroClock, paired, isWithin}
 use Rattle.theory_lists.specs.Or.{ored}
 use Rattle.desk.specs.declared.Cell.{Cell}
 use Rattle.desk.specs.declared.Counts.{Counts}
 use Rattle.desk.specs.declared.Place.{Place}
 use Rattle.desk.specs.declared.Seat.{Seat}
 use Rattle.desk.specs.declared.Slot.{Slot}
-use Rattle.desk.specs.Desk.{Word, oneIf}
+use Rattle.desk.specs.Desk.{Word, isNoWord, oneIf}
 use Rattle.desk_sums.specs.declared.Sum.{Sum}
 
 abbrev pub noSum : Sum
@@ -73,3 +73,13 @@ usedBy n desk = cond (ltb desk (n .desks)) (n .cells) 0
 -- ---- the test
 unfoldable pub sumFits : Sum → ℕ → Bool
 sumFits s desks = eqb (s .w) 0 && eqb (bitOr (orPast (s .z) 0) (orPast (s .h) desks)) 0
+
+-- ---- what each adds to the test
+unfoldable pub clockFits : ℕ → Bool → Clock → Word → Bool
+clockFits desks carried c word = cond carried (isWithin desks c) (isNoWord word && isWithin 0 c)
+
+unfoldable pub restFits : Cell → Bool
+restFits x = isNoWord (x .word) && isWithin 0 (x .stamp) && not (x .held)
+
+unfoldable pub keptFits : ℕ → Bool → Cell → Bool
+keptFits desks kept x = cond (x .held) (isWithin desks (x .stamp)) (isNoWord (x .word) && isWithin 0 (x .stamp) && not kept)

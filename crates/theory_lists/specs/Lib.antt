@@ -4,3 +4,4 @@ pub mod Part
 pub mod Replaced
 pub mod Sum
 pub mod Test
+pub mod Turns
