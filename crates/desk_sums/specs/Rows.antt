@@ -7,7 +7,7 @@ use native.Mathlib.Decide.{decLt}
 use native.Mathlib.Omega.{arith}
 use lib.Dec.{ltb}
 use lib.ListN.{length}
-use borrow.Author.Tests.{lt-ltb, le-ltb, ne-eqb}
+use borrow.Author.Tests.{ltb-true, eqb-true, lt-ltb, le-ltb}
 use Rattle.theory_lists.specs.Test.{same-test, both-left, both-right, fails}
 use Rattle.theory_lists.specs.Turns.{turns, turns-next, between, between-none, between-next, allBelow, all-more, turns-add, every-all}
 use Rattle.desk.specs.declared.Cell.{Cell}
@@ -18,11 +18,11 @@ use Rattle.desk.specs.declared.Seat.{Seat}
 use Rattle.desk.specs.declared.Tray.{Tray}
 use Rattle.desk.specs.Desk.{pastCell, cellAt, placeAt, keeperOf, isUsed, keepsAt}
 use Rattle.desk.specs.Sound.{cellFits, cellSound, seatSound, cellsSound}
-use Rattle.desk.specs.SoundLaws.{TrayRule, keeper-desk}
+use Rattle.desk.specs.SoundLaws.{TrayRule, keeper-desk, Used, is-used}
 use Rattle.desk_sums.specs.declared.Sum.{Sum}
 use Rattle.desk_sums.specs.Laws.{none-fits, rest-adds, kept-adds, fits-used, fits-past}
 use Rattle.desk_sums.specs.Seats.{seat-adds}
-use Rattle.desk_sums.specs.Sums.{noSum, restOf, addKept, addSeatOf, slotCell, keptBy, usedBy, sumFits}
+use Rattle.desk_sums.specs.Sums.{noSum, restOf, addKept, addSeatOf, slotCell, keptBy, usedBy, sumFits, restFits, keptFits}
 
 -- ---- what the loops make: cells below the count, up to c; cells past it, from n up to c; a row; seats
 unfoldable pub usedSum : (ℕ → Place) → (ℕ → Cell) → ℕ → Sum → ℕ → Sum
@@ -79,10 +79,78 @@ module _ (t : Tray) (r : TrayRule t) (long : length (t .places) ≡ 32) (cell : 
         | no h ↦ rw (le-ltb desk (t .counts .desks) (omega arith)) (omega arith)
       ]
 
-  used-at : (c : ℕ) → c < n → desk < t .counts .desks
+  used-at : (c : ℕ) → c < n → Used (t .counts) desk c
   unfolding n
   used-at c h =
       elim (decLt desk (t .counts .desks)) [
-        | yes there ↦ there
+        | yes there ↦ (there, rw (lt-ltb desk (t .counts .desks) there) at h)
         | no past ↦ absurd (omega (arith, rw (le-ltb desk (t .counts .desks) (omega arith)) at h))
       ]
+
+  -- what each entry adds is its soundness
+  used-fits : (c : ℕ) → c < n → cellSound t desk c (cell c) ≡ keptFits (t .counts .desks) (keptBy (placeAt t c) desk) (cell c)
+  unfolding cellSound
+  used-fits c h =
+      let u = used-at c h in
+      fits-used (t .counts) (placeAt t c) desk c (cell c) (is-used (t .counts) desk c u) (rw (lt-ltb c (t .counts .cells) (u .1)))
+
+  past-fits : (c : ℕ) → n ≤ c → cellSound t desk c (cell c) ≡ restFits (cell c)
+  unfolding cellSound n
+  past-fits c h =
+      elim (decLt desk (t .counts .desks)) [
+        | yes there ↦ (let past : ltb c (t .counts .cells) ≡ false = le-ltb c (t .counts .cells) (rw (lt-ltb desk (t .counts .desks) there) at h) in
+            fits-past (t .counts) (placeAt t c) desk c (cell c) (rw (past, and-false (ltb desk (t .counts .desks)))) (rw past))
+        | no absent ↦ fits-past (t .counts) (placeAt t c) desk c (cell c) (rw (le-ltb desk (t .counts .desks) (omega arith)))
+            (fails (keepsAt (t .counts) (placeAt t c) desk c) (λ e. kept (omega arith) e))
+      ]
+    where
+      -- an absent desk keeps nothing
+      kept : t .counts .desks ≤ desk → keepsAt (t .counts) (placeAt t c) desk c ≡ true → ⊥
+      kept absent e =
+          let below : c < t .counts .cells = ltb-true c (t .counts .cells) (both-left (ltb c (t .counts .cells)) (keptBy (placeAt t c) desk) e) in
+          let is : keeperOf t c ≡ desk = eqb-true (keeperOf t c) desk (both-right (ltb c (t .counts .cells)) (keptBy (placeAt t c) desk) e) in
+          omega (arith, keeper-desk t c r long below)
+
+  pub row-adds : (s : Sum) → sumFits (rowSum (placeAt t) cell desk (usedBy (t .counts) desk) s) (t .counts .desks)
+      ≡ (sumFits s (t .counts .desks) && allBelow (λ c. cellSound t desk c (cell c)) 32)
+  unfolding usedSum pastSum between n
+  row-adds s =
+      turns-add fits (λ u k. restOf u (cell (n + k))) (λ k. test (n + k)) used (32 - n)
+      (λ u k h. rest-adds u (cell (n + k)) desks ∙ ap (_&&_ (fits u)) (sym (past-fits (n + k) (omega arith))))
+      ∙ ap (λ (x : Bool). x && allBelow (λ k. test (n + k)) (32 - n))
+      (turns-add fits (λ u k. addKept u (keptBy (placeAt t k) desk) (cell k)) test s n
+      (λ u k h. kept-adds u (keptBy (placeAt t k) desk) (cell k) desks ∙ ap (_&&_ (fits u)) (sym (used-fits k h))))
+      ∙ and-assoc (fits s) (allBelow test n) (allBelow (λ k. test (n + k)) (32 - n))
+      ∙ ap (_&&_ (fits s)) (all-more test n (32 - n) ∙ ap (allBelow test) whole)
+    where
+      desks : ℕ
+      desks = t .counts .desks
+
+      fits : Sum → Bool
+      fits u = sumFits u desks
+
+      test : ℕ → Bool
+      test c = cellSound t desk c (cell c)
+
+      used : Sum
+      used = usedSum (placeAt t) cell desk s n
+
+      whole : n + (32 - n) ≡ 32
+      whole = omega (arith, n-most)
+
+-- ---- a desk's record, and all seats
+pub record-fits : (v : Record) → TrayRule (v .tray) → length (v .tray .places) ≡ 32 → length (v .row) ≡ 32
+    → sumFits (rowSum (placeAt (v .tray)) (cellAt (v .row)) (v .desk) (usedBy (v .tray .counts) (v .desk)) noSum) (v .tray .counts .desks)
+    ≡ cellsSound v
+unfolding cellsSound
+record-fits v r long row =
+    row-adds (v .tray) r long (cellAt (v .row)) (v .desk) noSum
+    ∙ rw (none-fits (v .tray .counts .desks), every-all (cellSound (v .tray) (v .desk)) (v .row) pastCell, row)
+
+pub seats-fit : (t : Tray) (seat : ℕ → Seat) (d : ℕ) → t .counts .cells ≤ 32
+    → sumFits (seatsSum t seat d) (t .counts .desks) ≡ allBelow (λ k. seatSound t k (seat k)) d
+unfolding seatsSum
+seats-fit t seat d h =
+    turns-add (λ s. sumFits s (t .counts .desks)) (λ s k. addSeatOf s (t .counts) k (placeAt t (slotCell (seat k))) (seat k))
+    (λ k. seatSound t k (seat k)) noSum d (λ s k _. seat-adds t k (seat k) h s)
+    ∙ rw (none-fits (t .counts .desks))
