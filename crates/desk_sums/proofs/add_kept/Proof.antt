@@ -24,7 +24,12 @@ cast-t12 c = search needs
 
 returns-2 : tie.Need-returns-2
 unfolding addKept addClock
-returns-2 c = rw (c .before .before .before .if1 .left, c .before .before .over2 .ensures, byte-is (c .before .before .before .before .before .before .before .args .kept))
+returns-2 c =
+    rw (
+      c .before .before .before .if1 .left,
+      c .before .before .over2 .ensures,
+      byte-is (c .before .before .before .before .before .before .before .args .kept),
+    )
 
 pub add-kept-spec : {M : Type 1} → statement M
 add-kept-spec =

@@ -20,7 +20,13 @@ cast-t13 c = search needs
 
 returns : tie.Need-returns
 unfolding addSeat
-returns c = rw (byte-is (c .before .slot-bad .result), c .before .slot-bad .ensures, c .before .before .before .before .add-clock2 .ensures, c .before .before .before .before .before .before .add-clock .ensures)
+returns c =
+    rw (
+      byte-is (c .before .slot-bad .result),
+      c .before .slot-bad .ensures,
+      c .before .before .before .before .add-clock2 .ensures,
+      c .before .before .before .before .before .before .add-clock .ensures,
+    )
 
 pub add-seat-spec : {M : Type 1} → statement M
 add-seat-spec =

@@ -57,9 +57,8 @@ element-copy-out-t59 c = search needs
 returns : tie.Need-returns
 unfolding listed
 returns c =
-    let a = c .before .before .before .before .before .before .before .before .before .before .before .before .before .before .before .before .args .t1 in
-    let b = c .before .before .before .before .before .before .before .before .before .before .before .before .before .before .before .before .args .t2 in
-    joined-listed a b (search needs) (search needs)
+    let start = c .before .before .before .before .before .before .before .before .before .before .before .before .before .before .before .before .args in
+    joined-listed (start .t1) (start .t2) (search needs) (search needs)
 
 pub over-spec : {M : Type 1} → statement M
 over-spec =

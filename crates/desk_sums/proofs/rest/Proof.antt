@@ -17,7 +17,11 @@ cast-t9 c = search needs
 
 returns : tie.Need-returns
 unfolding restOf addClock
-returns c = rw (c .before .before .before .over .ensures, byte-is (c .before .before .before .before .before .before .before .args .x .held))
+returns c =
+    rw (
+      c .before .before .before .over .ensures,
+      byte-is (c .before .before .before .before .before .before .before .args .x .held),
+    )
 
 pub rest-spec : {M : Type 1} → statement M
 rest-spec = tie.close (tie.spec over-requires cast-t7 cast-t9 returns)
