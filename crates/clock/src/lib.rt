@@ -2,6 +2,7 @@
 ghost use mathlib.Core.Path.{_≡_};
 ghost use Prim.Native.Nat.{max};
 ghost use Rattle.clock.specs.Clock.{zeroClock, merged, isBefore, isWithin};
+ghost use Rattle.clock.specs.Order.{orderOf};
 
 #[repr(C)]
 pub struct Clock {
@@ -27,13 +28,15 @@ impl Clock {
     pub fn before(self, other: Clock) -> bool
         ensures { λ r. ⌜ r ≡ isBefore self other ⌝ }
     {
-        let mut none_larger = true;
-        let mut one_smaller = false;
-        for desk in 0..8 {
-            none_larger = none_larger & (self.n[desk] <= other.n[desk]);
-            one_smaller = one_smaller | (self.n[desk] < other.n[desk]);
-        }
-        none_larger & one_smaller
+        let all = order(self.n[0], other.n[0])
+            | order(self.n[1], other.n[1])
+            | order(self.n[2], other.n[2])
+            | order(self.n[3], other.n[3])
+            | order(self.n[4], other.n[4])
+            | order(self.n[5], other.n[5])
+            | order(self.n[6], other.n[6])
+            | order(self.n[7], other.n[7]);
+        all == 1
     }
 
     // Whether the numbers past the desk count are 0.
@@ -47,6 +50,13 @@ impl Clock {
         }
         rest_zero
     }
+}
+
+// How two numbers stand: 0 equal, 1 smaller, 2 larger. (One value for both, so that the compiler takes the eight pairs at once.)
+fn order(a: u32, b: u32) -> u32
+    ensures { λ r. ⌜ r ≡ orderOf a b ⌝ }
+{
+    if a == b { 0 } else { if a < b { 1 } else { 2 } }
 }
 
 fn larger(a: u32, b: u32) -> u32

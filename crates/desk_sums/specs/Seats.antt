@@ -1,0 +1,152 @@
+-- What one more seat adds to the test of a sum: its own soundness.
+-- Assumes nothing.
+use mathlib.Core.Path.{_≡_, refl, sym, ap, ap₂, _∙_}
+use mathlib.Core.Bool.{Bool, true, false, not, _&&_, _||_, cond, and-assoc, and-true, and-false, or-true, or-false}
+use Prim.Native.Nat.{ℕ, _%_, _≤_, _<_}
+use native.Mathlib.Decide.{decLe, decLt, ℕ-discrete}
+use native.Mathlib.Omega.{arith}
+use lib.Dec.{ltb, leb, eqb}
+use borrow.Author.Tests.{lt-ltb, le-ltb, le-leb, lt-leb, eq-eqb, ne-eqb}
+use Rattle.clock.specs.declared.Clock.{Clock}
+use Rattle.clock.specs.Clock.{isWithin}
+use Rattle.desk.specs.declared.Counts.{Counts}
+use Rattle.desk.specs.declared.Seat.{Seat}
+use Rattle.desk.specs.declared.Slot.{Slot}
+use Rattle.desk.specs.declared.Tray.{Tray}
+use Rattle.desk.specs.Desk.{isNoWord, placeAt, keeperOf, keeps, waits}
+use Rattle.desk.specs.Sound.{slotNames, slotCarries, slotSound, numbersOf, seatSound}
+use Rattle.desk_sums.specs.declared.Sum.{Sum}
+use Rattle.desk_sums.specs.Sums.{addClock, slotBad, addSeat, addSeatOf, slotCell, sumFits, clockFits}
+use Rattle.desk_sums.specs.Laws.{noted-adds, clock-adds}
+
+-- a test and the one that is its contrary
+le-or-lt : (a b : ℕ) → ltb b a ≡ not (leb a b)
+le-or-lt a b = elim (decLe a b) [ yes h ↦ rw (le-leb a b h, le-ltb b a h) | no h ↦ rw (lt-leb a b (omega arith), lt-ltb b a (omega arith)) ]
+
+lt-or-le : (a b : ℕ) → leb b a ≡ not (ltb a b)
+lt-or-le a b = elim (decLt a b) [ yes h ↦ rw (lt-ltb a b h, lt-leb b a h) | no h ↦ rw (le-ltb a b (omega arith), le-leb b a (omega arith)) ]
+
+-- the desk's own clock
+own-clock : (n : Counts) (desk : ℕ) (c : Clock) → clockFits (n .desks) (ltb desk (n .desks)) c 0 ≡ isWithin (numbersOf n desk) c
+unfolding clockFits isNoWord
+own-clock n desk c = go (ltb desk (n .desks)) refl
+  where
+    go : (b : Bool) → ltb desk (n .desks) ≡ b → clockFits (n .desks) (ltb desk (n .desks)) c 0 ≡ isWithin (numbersOf n desk) c
+    go true p = rw p
+    go false p = rw p
+
+-- ---- the slot, as its tests: empty, below 2, below 5; the desk is there, the cell in range, its own, zero; served
+-- what it carries: a word and a clock that are zero (none), a clock that is in range (some)
+summed : (first there empty low most in-range own zero served none some : Bool) → Bool
+summed first there empty low most in-range own zero served none some =
+    first && cond (there && not low) some none && not (cond empty (served || not zero) (not most || not in-range || own || not there))
+
+stated : (first there empty low most in-range own zero served none some : Bool) → Bool
+stated first there empty low most in-range own zero served none some =
+    first
+    && (most && cond (not empty) (there && in-range && not (in-range && own)) zero && cond low none some)
+    && (not empty || not served)
+
+slot-empty : (first there in-range own zero served none some : Bool)
+    → summed first there true true true in-range own zero served none some ≡ stated first there true true true in-range own zero served none some
+unfolding summed stated
+slot-empty first there in-range own zero served none some = rw (and-false there) (go first zero served)
+  where
+    go : (f z s : Bool) → (f && none && not (s || not z)) ≡ (f && (z && none) && not s)
+    go f true true = refl
+    go f true false = refl
+    go true false s = rw (or-true s) (and-false none)
+    go false false s = refl
+
+slot-full : (first there low most in-range own zero served none some : Bool)
+    → summed first there false low most in-range own zero served none some ≡ stated first there false low most in-range own zero served none some
+unfolding summed stated
+slot-full first false low most in-range own zero served none some = simp (or-true, and-false)
+slot-full first true low most false own zero served none some = simp (or-true, and-false)
+slot-full first true low false true own zero served none some = simp and-false
+slot-full first true low true true true zero served none some = simp and-false
+slot-full first true true true true false zero served none some = refl
+slot-full first true false true true false zero served none some = refl
+
+-- ---- the seat
+module _ (t : Tray) (desk : ℕ) (v : Seat) (most-cells : t .counts .cells ≤ 32) where
+  in-range : Bool
+  in-range = ltb (v .slot .cell) (t .counts .cells)
+
+  own : Bool
+  own = eqb (keeperOf t (slotCell v)) desk
+
+  first : Bool
+  first = isWithin (numbersOf (t .counts) desk) (v .clock)
+
+  none : Bool
+  none = isNoWord (v .slot .word) && isWithin 0 (v .slot .clock)
+
+  some : Bool
+  some = isWithin (t .counts .desks) (v .slot .clock)
+
+  -- a cell in range is the one at its place
+  keeps-own : keeps t desk (v .slot .cell) ≡ (in-range && own)
+  unfolding keeps in-range own
+  keeps-own =
+      elim (decLt (v .slot .cell) (t .counts .cells)) [
+        | yes h ↦ (let same : v .slot .cell % 32 ≡ v .slot .cell = omega arith in rw same)
+        | no h ↦ rw (le-ltb (v .slot .cell) (t .counts .cells) (omega arith))
+      ]
+
+  by : (Bool → Bool → Bool → Bool → Bool → Bool → Bool → Bool → Bool → Bool → Bool → Bool) → Bool
+  by f =
+      f first (ltb desk (t .counts .desks)) (eqb (v .slot .kind) 0) (leb (v .slot .kind) 1) (leb (v .slot .kind) 4) in-range own
+      (eqb (v .slot .cell) 0) (v .served) none some
+
+  summed-is : (first
+      && clockFits (t .counts .desks) (ltb desk (t .counts .desks) && leb 2 (v .slot .kind)) (v .slot .clock) (v .slot .word)
+      && not (slotBad (ltb desk (t .counts .desks)) (t .counts .cells) own (v .slot) (v .served))) ≡ by summed
+  unfolding by summed in-range none some clockFits slotBad
+  summed-is = rw (le-or-lt (v .slot .kind) 1, le-or-lt (v .slot .kind) 4, lt-or-le (v .slot .cell) (t .counts .cells))
+
+  stated-is : by stated ≡ seatSound t desk v
+  unfolding by stated first in-range none some seatSound slotSound slotNames slotCarries waits
+  stated-is = rw (keeps-own)
+
+  same : by summed ≡ by stated
+  unfolding by first in-range own none some
+  same =
+      elim (ℕ-discrete (v .slot .kind) 0) [
+        | yes e ↦ rw e (slot-empty first (ltb desk (t .counts .desks)) in-range own (eqb (v .slot .cell) 0) (v .served) none some)
+        | no ne ↦ rw (ne-eqb (v .slot .kind) 0 ne)
+            (slot-full first (ltb desk (t .counts .desks)) (leb (v .slot .kind) 1) (leb (v .slot .kind) 4) in-range own (eqb (v .slot .cell) 0)
+            (v .served) none some)
+      ]
+
+  pub seat-adds : (s : Sum) → sumFits (addSeatOf s (t .counts) desk (placeAt t (slotCell v)) v) (t .counts .desks)
+      ≡ (sumFits s (t .counts .desks) && seatSound t desk v)
+  unfolding addSeat own first
+  seat-adds s =
+      noted-adds two (slotBad there (t .counts .cells) own (v .slot) (v .served)) desks
+      ∙ ap (λ (x : Bool). x && fine) (clock-adds one (there && leb 2 (v .slot .kind)) (v .slot .clock) (v .slot .word) desks)
+      ∙ ap (λ (x : Bool). x && carries && fine) (clock-adds s there (v .clock) 0 desks)
+      ∙ ap (λ (x : Bool). sumFits s desks && x && carries && fine) (own-clock (t .counts) desk (v .clock))
+      ∙ out (sumFits s desks) first carries fine
+      ∙ ap (_&&_ (sumFits s desks)) (summed-is ∙ same ∙ stated-is)
+    where
+      desks : ℕ
+      desks = t .counts .desks
+
+      there : Bool
+      there = ltb desk desks
+
+      one : Sum
+      one = addClock s there (v .clock) 0
+
+      two : Sum
+      two = addClock one (there && leb 2 (v .slot .kind)) (v .slot .clock) (v .slot .word)
+
+      carries : Bool
+      carries = clockFits desks (there && leb 2 (v .slot .kind)) (v .slot .clock) (v .slot .word)
+
+      fine : Bool
+      fine = not (slotBad there (t .counts .cells) own (v .slot) (v .served))
+
+      out : (a b c d : Bool) → (a && b && c && d) ≡ (a && (b && c && d))
+      out a b c d = simp and-assoc
