@@ -77,9 +77,12 @@ oneIf b = cond b 1 0
 abbrev pub isUsed : Counts → ℕ → ℕ → Bool
 isUsed n desk c = ltb desk (n .desks) && ltb c (n .cells)
 
--- "A cell has a fixed keeper": the desk keeps cell c, whose place is p
+-- "A cell has a fixed keeper": the desk is the keeper of the place, and keeps cell c, whose place it is
+abbrev pub keptBy : Place → ℕ → Bool
+keptBy p desk = eqb (p .keeper) desk
+
 abbrev pub keepsAt : Counts → Place → ℕ → ℕ → Bool
-keepsAt n p desk c = ltb c (n .cells) && eqb (p .keeper) desk
+keepsAt n p desk c = ltb c (n .cells) && keptBy p desk
 
 unfoldable pub keeps : Tray → ℕ → ℕ → Bool
 keeps t desk c = keepsAt (t .counts) (placeAt t c) desk c

@@ -18,10 +18,10 @@ use Rattle.theory_lists.specs.Test.{both, both-left, both-right, same-test}
 use Rattle.desk.specs.declared.Cell.{Cell}
 use Rattle.desk.specs.declared.Counts.{Counts}
 use Rattle.desk.specs.declared.Place.{Place}
-use Rattle.desk.specs.Desk.{Word, isNoWord, oneIf, isUsed, keepsAt}
+use Rattle.desk.specs.Desk.{Word, isNoWord, oneIf, isUsed, keepsAt, keptBy}
 use Rattle.desk.specs.Sound.{cellFits}
 use Rattle.desk_sums.specs.declared.Sum.{Sum}
-use Rattle.desk_sums.specs.Sums.{noSum, joined, orPast, addClock, noted, restOf, addKept, keptBy, sumFits, clockFits, restFits, keptFits}
+use Rattle.desk_sums.specs.Sums.{noSum, joined, orPast, addClock, noted, restOf, addKept, sumFits, clockFits, restFits, keptFits}
 
 -- ---- as the code has it
 pub byte-is : (b : Bool) → boolByte b ≡ oneIf b

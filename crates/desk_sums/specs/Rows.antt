@@ -16,13 +16,13 @@ use Rattle.desk.specs.declared.Place.{Place}
 use Rattle.desk.specs.declared.Record.{Record}
 use Rattle.desk.specs.declared.Seat.{Seat}
 use Rattle.desk.specs.declared.Tray.{Tray}
-use Rattle.desk.specs.Desk.{pastCell, cellAt, placeAt, keeperOf, isUsed, keepsAt}
+use Rattle.desk.specs.Desk.{pastCell, cellAt, placeAt, keeperOf, isUsed, keepsAt, keptBy}
 use Rattle.desk.specs.Sound.{traySound, cellSound, seatSound, cellsSound, isSound}
 use Rattle.desk.specs.SoundLaws.{TrayRule, tray-rule, keeper-desk, Used, is-used}
 use Rattle.desk_sums.specs.declared.Sum.{Sum}
 use Rattle.desk_sums.specs.Laws.{none-fits, rest-adds, kept-adds, fits-used, fits-past}
 use Rattle.desk_sums.specs.Seats.{seat-adds}
-use Rattle.desk_sums.specs.Sums.{noSum, restOf, addKept, addSeatOf, slotCell, keptBy, usedBy, sumFits, restFits, keptFits}
+use Rattle.desk_sums.specs.Sums.{noSum, restOf, addKept, addSeatOf, slotCell, usedBy, sumFits, restFits, keptFits}
 
 -- ---- what the loops make: cells below the count, up to c; cells past it, from n up to c; a row; all rows; seats
 unfoldable pub usedSum : (ℕ → Place) → (ℕ → Cell) → ℕ → Sum → ℕ → Sum

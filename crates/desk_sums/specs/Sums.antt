@@ -14,7 +14,7 @@ use Rattle.desk.specs.declared.Counts.{Counts}
 use Rattle.desk.specs.declared.Place.{Place}
 use Rattle.desk.specs.declared.Seat.{Seat}
 use Rattle.desk.specs.declared.Slot.{Slot}
-use Rattle.desk.specs.Desk.{Word, isNoWord, oneIf}
+use Rattle.desk.specs.Desk.{Word, isNoWord, oneIf, keptBy}
 use Rattle.desk_sums.specs.declared.Sum.{Sum}
 
 abbrev pub noSum : Sum
@@ -55,9 +55,6 @@ unfoldable pub addSeat : Sum → Bool → ℕ → Bool → Seat → Sum
 addSeat s there cells own v =
     noted (addClock (addClock s there (v .clock) 0) (there && leb 2 (v .slot .kind)) (v .slot .clock) (v .slot .word))
     (slotBad there cells own (v .slot) (v .served))
-
-abbrev pub keptBy : Place → ℕ → Bool
-keptBy p desk = eqb (p .keeper) desk
 
 abbrev pub addSeatOf : Sum → Counts → ℕ → Place → Seat → Sum
 addSeatOf s n desk p v = addSeat s (ltb desk (n .desks)) (n .cells) (keptBy p desk) v

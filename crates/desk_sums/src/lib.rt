@@ -1,7 +1,8 @@
 // Soundness as a running sum that is tested once: what each cell and each seat adds, and the test.
 // A walk over a table's or a record's entries calls these, each on small things by value.
 ghost use mathlib.Core.Path.{_≡_};
-ghost use Rattle.desk_sums.specs.Sums.{noSum, joined, orPast, restOf, addKept, addClock, slotBad, addSeat, addSeatOf, slotCell, sumFits, keptBy, usedBy};
+ghost use Rattle.desk.specs.Desk.{keptBy};
+ghost use Rattle.desk_sums.specs.Sums.{noSum, joined, orPast, restOf, addKept, addClock, slotBad, addSeat, addSeatOf, slotCell, sumFits, usedBy};
 use clock::Clock;
 use desk::Cell;
 use desk::Counts;

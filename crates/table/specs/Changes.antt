@@ -5,18 +5,22 @@ use mathlib.Core.Path.{_≡_, refl, sym, ap, _∙_}
 use mathlib.Core.Bool.{Bool, true, false, _&&_, not}
 use Prim.Native.Nat.{ℕ, _+_, _*_, _≤_, _<_}
 use native.Mathlib.Omega.{arith}
+use native.Mathlib.Nat.{add-zero}
+use native.Mathlib.Numerals.{add-one}
+use borrow.Author.Tests.{lt-ltb}
 use lib.ListN.{length, set, length-set}
 use lib.Seq.{slice, paste}
 use Rattle.clock.specs.declared.Clock.{Clock}
 use Rattle.desk.specs.declared.Cell.{Cell}
 use Rattle.desk.specs.declared.Record.{Record}
 use Rattle.desk.specs.declared.Seat.{Seat}
-use Rattle.desk.specs.Desk.{noCell, pastCell, pastSeat, cellAt, isCopy, isLost, leftAt, leftOf, lossOf}
+use Rattle.desk.specs.Desk.{noCell, pastCell, pastSeat, cellAt, placeAt, keptBy, keeps, isCopy, isLost, leftAt, leftOf, lossOf}
+use Rattle.desk.specs.Parts.{losesIf}
 use Rattle.desk.specs.Rules.{withSeat, withRow, holds}
 use Rattle.desk.specs.SameDesk.{SameDesk}
 use Rattle.desk.specs.SoundLaws.{RowRule, no-way}
 use Rattle.theory_lists.specs.Part.{paste-slice, paste-paste, set-in-part, set-same, set-twice}
-use Rattle.theory_lists.specs.Swept.{swept, sweptCount, swept-row, swept-count}
+use Rattle.theory_lists.specs.Swept.{swept, sweptCount, count-small, swept-row, swept-count}
 use Rattle.theory_lists.specs.Test.{both-left, fails}
 use Rattle.table.specs.declared.Table.{Table}
 use Rattle.table.specs.Rows.{Sized, row-length}
@@ -30,17 +34,62 @@ withCell t i x = record { cells = set (t .cells) i x; tray = t .tray; seats = t 
 abbrev pub withSeatOf : Table → ℕ → Seat → Table
 withSeatOf t d s = record { cells = t .cells; tray = t .tray; seats = set (t .seats) d s }
 
--- desk d has lost its copies strictly before a clock, in a loop over the tray's cells; and how many
-unfoldable pub lostOf : Table → ℕ → Clock → Table
-lostOf t d learnt =
-    record {
-      cells = swept (isLost (t .tray) d learnt) noCell pastCell (d * 32) (t .tray .counts .cells) (t .cells);
-      tray = t .tray;
-      seats = t .seats;
-    }
+-- desk d has lost its copies strictly before a clock, of its first n cells; and how many
+unfoldable pub lostTo : Table → ℕ → Clock → ℕ → Table
+lostTo t d learnt n =
+    record { cells = swept (isLost (t .tray) d learnt) noCell pastCell (d * 32) n (t .cells); tray = t .tray; seats = t .seats }
 
-unfoldable pub lostCount : Table → ℕ → Clock → ℕ
-lostCount t d learnt = sweptCount (isLost (t .tray) d learnt) noCell pastCell (d * 32) (t .tray .counts .cells) (t .cells)
+unfoldable pub lossTo : Table → ℕ → Clock → ℕ → ℕ
+lossTo t d learnt n = sweptCount (isLost (t .tray) d learnt) noCell pastCell (d * 32) n (t .cells)
+
+-- of all cells of the tray
+abbrev pub lostOf : Table → ℕ → Clock → Table
+lostOf t d learnt = lostTo t d learnt (t .tray .counts .cells)
+
+abbrev pub lostCount : Table → ℕ → Clock → ℕ
+lostCount t d learnt = lossTo t d learnt (t .tray .counts .cells)
+
+-- a turn of the sweep: the cell that it looks at is lost, or stays
+module _ (t : Table) (d : ℕ) (learnt : Clock) where
+  pub lost-none : lostTo t d learnt 0 ≡ t
+  unfolding lostTo swept
+  lost-none = refl
+
+  pub loss-none : lossTo t d learnt 0 ≡ 0
+  unfolding lossTo sweptCount
+  loss-none = refl
+
+  module _ (c : ℕ) (h : c < t .tray .counts .cells) where
+    abbrev looked : Cell
+    looked = cellAt (lostTo t d learnt c .cells) (d * 32 + c)
+
+    abbrev test : Bool
+    test = losesIf (keptBy (placeAt (t .tray) c) d) learnt looked
+
+    test-is : isLost (t .tray) d learnt c looked ≡ test
+    unfolding isLost isCopy keeps
+    test-is = rw (lt-ltb c (t .tray .counts .cells) h)
+
+    pub lost-one : test ≡ true → withCell (lostTo t d learnt c) (d * 32 + c) noCell ≡ lostTo t d learnt (c + 1)
+    unfolding lostTo swept
+    lost-one e = rw (add-one, test-is, e)
+
+    pub lost-stays : test ≡ false → lostTo t d learnt c ≡ lostTo t d learnt (c + 1)
+    unfolding lostTo swept
+    lost-stays e = rw (add-one, test-is, e)
+
+    pub loss-one : test ≡ true → lossTo t d learnt c + 1 ≡ lossTo t d learnt (c + 1)
+    unfolding lossTo sweptCount lostTo
+    loss-one e = sym (ap (lossTo t d learnt) (add-one c) ∙ rw (test-is, e))
+
+    pub loss-stays : test ≡ false → lossTo t d learnt c ≡ lossTo t d learnt (c + 1)
+    unfolding lossTo sweptCount lostTo
+    loss-stays e = sym (ap (lossTo t d learnt) (add-one c) ∙ rw (test-is, e) (add-zero (lossTo t d learnt c)))
+
+  -- at most one for each cell looked at
+  pub loss-small : (n : ℕ) → lossTo t d learnt n ≤ n
+  unfolding lossTo
+  loss-small n = count-small (isLost (t .tray) d learnt) noCell pastCell (d * 32) n (t .cells)
 
 module _ (t : Table) (d : ℕ) (z : Sized t) (h : d < 8) where
   abbrev v : Record
@@ -90,7 +139,7 @@ module _ (t : Table) (d : ℕ) (z : Sized t) (h : d < 8) where
         omega (arith, there .1))
 
     pub lost-put : lostOf t d learnt ≡ putBack t (withRow (recordOf t d) (leftOf (t .tray) d learnt (recordOf t d .row)))
-    unfolding lostOf recordOf putBack leftOf
+    unfolding lostTo recordOf putBack leftOf
     lost-put =
         λ i.
         record {
@@ -102,7 +151,7 @@ module _ (t : Table) (d : ℕ) (z : Sized t) (h : d < 8) where
         }
 
     pub lost-count : lostCount t d learnt ≡ lossOf (t .tray) d learnt (recordOf t d .row)
-    unfolding lostCount lossOf recordOf
+    unfolding lossTo lossOf recordOf
     lost-count =
         swept-count (isLost (t .tray) d learnt) noCell pastCell (d * 32) (t .tray .counts .cells) 32 (t .cells) few
         (omega (arith, z .all-cells)) past

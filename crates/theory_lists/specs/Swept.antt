@@ -32,6 +32,14 @@ module _ {A : Type 0} (test : ℕ → A → Bool) (none d : A) (base : ℕ) wher
       whichever (λ (m : List A). length m ≡ length l) (test n (getD (swept n l) (base + n) d)) (set (swept n l) (base + n) none) (swept n l)
       (length-set (swept n l) (base + n) none ∙ length-swept n l) (length-swept n l)
 
+  -- at most one for each place
+  pub count-small : (n : ℕ) (l : List A) → sweptCount n l ≤ n
+  unfolding sweptCount
+  count-small zero l = omega arith
+  count-small (suc n) l =
+      whichever (λ (k : ℕ). sweptCount n l + k ≤ suc n) (test n (getD (swept n l) (base + n) d)) 1 0
+      (omega (arith, count-small n l)) (omega (arith, count-small n l))
+
   -- a place before the part, or one that was not passed yet, is as it was
   pub swept-out : (n : ℕ) (l : List A) (k : ℕ) → (k < base) ⊎ (base + n ≤ k) → getD (swept n l) k d ≡ getD l k d
   unfolding swept
