@@ -1,5 +1,5 @@
 -- Demand 3 as it is promised: a desk that sees the coordinate has seen the datum. Read this file first; then `Operations` beside it, which
--- says what the operations of a run are, and `History` and `Demand` of causal, which say what an order of them has to explain.
+-- says what the operations of a run are, and `History` and `Demand` of theory_causal, which say what an order of them has to explain.
 -- Assumes nothing.
 use mathlib.Core.Path.{_≡_}
 use mathlib.Core.List.{List}

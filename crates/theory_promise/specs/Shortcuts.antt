@@ -113,7 +113,7 @@ drops-nothing-breaks =
     o .explains .nearest 9 (refl, refl) 3 (refl, refl) (through 3 7 9 l (o .once) (through 3 4 7 l (o .once) datum-first overwritten) own-last))
 
 -- Desk 0 keeps cell 0 and desk 1 cell 1. Desk 1 writes 27 in cell 0 and then 28, and serves a write of desk 0's before the second answer,
--- which carries 28, arrives; then it reads 27. (Said to come from 27 itself, it has no order either: `overwritten` in causal.)
+-- which carries 28, arrives; then it reads 27. (Said to come from 27 itself, it has no order either: `overwritten` in theory_causal.)
 unfoldable pub third : List (Step words)
 third =
     nothing ∷ nothing ∷ wrote 1 0 27 1 ∷ nothing ∷ nothing ∷ wrote 1 0 28 4 ∷ wrote 0 1 5 0 ∷ nothing ∷ showed 1 0 27 (from 5) 8 ∷ []
