@@ -4,14 +4,12 @@ use mathlib.Core.Path.{_≡_, refl, ap, ap₂, _∙_}
 use mathlib.Core.Bool.{Bool, true, false, not, _&&_, _||_, cond, or-assoc, or-false}
 use mathlib.Core.List.{List, [], _∷_}
 use Prim.Native.Nat.{ℕ, _+_, _*_, _<_}
-use native.Mathlib.Decide.{decLe}
 use native.Mathlib.Omega.{arith}
 use lib.Bits.{bitOr, or-block}
 use lib.Dec.{leb, ltb, eqb}
 use lib.ListN.{length}
-use borrow.Author.Tests.{lt-ltb, le-ltb, le-leb, lt-leb}
 use Rattle.theory_lists.specs.Or.{ored, listed, listed-all}
-use Rattle.theory_lists.specs.Test.{every, some}
+use Rattle.theory_lists.specs.Test.{every, some, gt-not-le}
 use Rattle.clock.specs.declared.Clock.{Clock}
 use Rattle.clock.specs.Clock.{number, paired, isBefore}
 use Rattle.clock.specs.Laws.{paired-at, length-paired}
@@ -41,9 +39,6 @@ or-flags s l p q =
     or-block 1 (bit l) (bit q) (bit s) (bit p) (bit-small s) (bit-small p)
     ∙ ap₂ (λ (x y : ℕ). x * 2 + y) (or-bit l q) (or-bit s p)
 
-larger-is : (x y : ℕ) → ltb y x ≡ not (leb x y)
-larger-is x y = elim (decLe x y) [ yes h ↦ rw (le-leb x y h, le-ltb y x h) | no h ↦ rw (lt-leb x y (omega arith), lt-ltb y x (omega arith)) ]
-
 -- one more pair
 turn : (s l : Bool) (x y : ℕ) (rest : List ℕ) (one all : Bool)
     → ((p q : Bool) → ored (flags p q) rest ≡ flags (p || one) (q || not all))
@@ -52,7 +47,7 @@ unfolding orderOf
 turn s l x y rest one all more =
     ap (λ (r : ℕ). ored r rest) (or-flags s l (ltb x y) (ltb y x))
     ∙ more (s || ltb x y) (l || ltb y x)
-    ∙ ap₂ flags (or-assoc s (ltb x y) one) (or-assoc l (ltb y x) (not all) ∙ ap (_||_ l) (rw larger-is (neither (leb x y) all)))
+    ∙ ap₂ flags (or-assoc s (ltb x y) one) (or-assoc l (ltb y x) (not all) ∙ ap (_||_ l) (rw (gt-not-le x y) (neither (leb x y) all)))
   where
     neither : (a b : Bool) → (not a || not b) ≡ not (a && b)
     neither true b = refl

@@ -1,10 +1,15 @@
 -- A desk's steps by what they make of a seat and of a cell. Record and table are changed through these, where they lie.
 -- Assumes nothing.
 use mathlib.Core.Bool.{Bool, true, false, not, _&&_, cond}
+use mathlib.Core.Path.{_≡_}
 use Prim.Native.Nat.{ℕ}
+use native.Mathlib.Decide.{ℕ-discrete}
+use native.Mathlib.Omega.{arith}
+use borrow.Author.Tests.{eq-eqb, ne-eqb}
 use lib.Dec.{eqb}
 use Rattle.clock.specs.declared.Clock.{Clock}
 use Rattle.clock.specs.Clock.{merged, isBefore, raised}
+use Rattle.theory_lists.specs.Test.{whichever}
 use Rattle.desk.specs.declared.Cell.{Cell}
 use Rattle.desk.specs.declared.Event.{Event}
 use Rattle.desk.specs.declared.Reply.{Reply}
@@ -43,6 +48,26 @@ ownReply kept x e =
     cond (eqb (e .kind) 1) (readReply x)
     (cond (eqb (e .kind) 2) (writeReply kept (e .word))
     (replyOf 0 noWord (oneIf (x .held && not kept))))
+
+-- a desk asks only at a read or a write, and stores only at a write
+pub change-asks : (kept : Bool) (x : Cell) (e : Event) → changeOf kept x e ≡ 1 → (e .kind ≡ 1 → ⊥) → e .kind ≡ 2
+unfolding changeOf
+change-asks kept x e q ne =
+    elim (ℕ-discrete (e .kind) 2) [
+      | yes k ↦ k
+      | no k ↦ absurd (omega (arith, rw (ne-eqb (e .kind) 1 ne, ne-eqb (e .kind) 2 k) at q))
+    ]
+
+pub change-stores : (kept : Bool) (x : Cell) (e : Event) → changeOf kept x e ≡ 2 → e .kind ≡ 2
+unfolding changeOf
+change-stores kept x e q =
+    elim (ℕ-discrete (e .kind) 1) [
+      | yes k ↦ absurd (whichever (λ (n : ℕ). n ≡ 2 → ⊥) (x .held) 0 1 (omega arith) (omega arith) (rw (eq-eqb (e .kind) 1 k) at q))
+      | no k ↦ elim (ℕ-discrete (e .kind) 2) [
+        | yes l ↦ l
+        | no l ↦ absurd (omega (arith, rw (ne-eqb (e .kind) 1 k, ne-eqb (e .kind) 2 l) at q))
+      ]
+    ]
 
 -- ---- serving, and bringing
 -- the keeper's seat once it has taken a write

@@ -1,13 +1,19 @@
 // What a desk's steps make of a seat and of a cell, by value. Record and table are thin functions over these.
+ghost use mathlib.Core.Bool.{not, _&&_};
+ghost use mathlib.Core.List.{[], _∷_};
 ghost use mathlib.Core.Path.{_≡_};
 ghost use Prim.Native.Nat.{_+_, _*_, _<_};
+ghost use lib.Dec.{eqb, leb, ltb};
 ghost use Rattle.clock.specs.Clock.{number, raised};
 ghost use Rattle.desk.specs.Desk.{heldCell, isBlank, oneIf};
-ghost use Rattle.desk.specs.Parts.{changeOf, askedFor, askingSeat, raisedSeat, readReply, writeReply, ownReply, tookSeat, answeredSeat, homeSeat, broughtCell, broughtReply, losesIf};
-ghost use Rattle.desk.specs.Rules.{shownCode};
+ghost use Rattle.desk.specs.Parts.{changeOf, askedFor, askingSeat, raisedSeat, readReply, writeReply, ownReply, tookSeat, answeredSeat, homeSeat, broughtCell, broughtReply, replyOf, losesIf};
+ghost use Rattle.desk.specs.Rules.{shownCode, refusedReply};
+ghost use Rattle.theory_refusals.specs.Refusals.{firstOf};
 use clock::Clock;
 use desk::Cell;
+use desk::Counts;
 use desk::Event;
+use desk::Place;
 use desk::Reply;
 use desk::Seat;
 use desk::Slot;
@@ -250,4 +256,116 @@ pub fn bring_reply(kind: u8, word: u32, stamp: Clock, count: u32) -> Reply
         value: word,
         count,
     }
+}
+
+// ---- what a walk asks of an event, a seat, a place and the counts
+pub fn desk_of(e: Event) -> usize
+    ensures { λ r. ⌜ r ≡ e .desk ⌝ }
+{
+    e.desk as usize
+}
+
+pub fn cell_of(e: Event) -> usize
+    ensures { λ r. ⌜ r ≡ e .cell ⌝ }
+{
+    e.cell as usize
+}
+
+pub fn is_kind(e: Event, kind: u32) -> bool
+    ensures { λ r. ⌜ r ≡ eqb (e .kind) kind ⌝ }
+{
+    e.kind == kind
+}
+
+// The cell that a seat's slot names.
+pub fn asked_cell(s: Seat) -> usize
+    ensures { λ r. ⌜ r ≡ s .slot .cell ⌝ }
+{
+    let slot = s.slot;
+    slot.cell as usize
+}
+
+pub fn asks_write(s: Seat) -> bool
+    ensures { λ r. ⌜ r ≡ eqb (s .slot .kind) 2 ⌝ }
+{
+    let slot = s.slot;
+    slot.kind == 2
+}
+
+// The clock sent with a write, or the stamp answered.
+pub fn sent(s: Seat) -> Clock
+    ensures { λ r. ⌜ r ≡ s .slot .clock ⌝ }
+{
+    let slot = s.slot;
+    slot.clock
+}
+
+pub fn word_of(s: Seat) -> u32
+    ensures { λ r. ⌜ r ≡ s .slot .word ⌝ }
+{
+    let slot = s.slot;
+    slot.word
+}
+
+pub fn keeper_of(p: Place) -> usize
+    ensures { λ r. ⌜ r ≡ p .keeper ⌝ }
+{
+    p.keeper as usize
+}
+
+pub fn cells_of(n: Counts) -> usize
+    ensures { λ r. ⌜ r ≡ n .cells ⌝ }
+{
+    n.cells as usize
+}
+
+// What is brought home to a seat: the cell that its slot names, and the reply.
+pub fn brought_to(s: Seat) -> Cell
+    ensures { λ r. ⌜ r ≡ broughtCell (s .served) (s .slot .word) (s .slot .clock) ⌝ }
+{
+    let slot = s.slot;
+    brought(s.served, slot.word, slot.clock)
+}
+
+pub fn brings(s: Seat, count: u32) -> Reply
+    ensures { λ r. ⌜ r ≡ broughtReply (s .slot .kind) (s .slot .word) (s .slot .clock) count ⌝ }
+{
+    let slot = s.slot;
+    bring_reply(slot.kind, slot.word, slot.clock, count)
+}
+
+// ---- replies
+pub fn refused(code: u32) -> Reply
+    ensures { λ r. ⌜ r ≡ refusedReply code ⌝ }
+{
+    Reply {
+        code,
+        value: 0,
+        count: 0,
+    }
+}
+
+pub fn dropped(count: u32) -> Reply
+    ensures { λ r. ⌜ r ≡ replyOf 0 0 count ⌝ }
+{
+    Reply {
+        code: 0,
+        value: 0,
+        count,
+    }
+}
+
+// The table's 8 and 10; 0 where neither applies.
+pub fn unplaced(n: Counts, e: Event) -> u32
+    ensures { λ r. ⌜ r ≡ firstOf ((8, not (leb 1 (e .kind) && leb (e .kind) 5)) ∷ (10, not (ltb (e .desk) (n .desks))) ∷ []) ⌝ }
+{
+    let kind = e.kind;
+    let desks = n.desks as u32;
+    if !((1 <= kind) & (kind <= 5)) {
+        return 8;
+    }
+    if desks <= e.desk {
+        return 10;
+    }
+    0
 }

@@ -1,8 +1,8 @@
 -- The sums that loops make, over any getter: a desk's row, and all seats. Each is soundness of what was walked over.
 -- Assumes nothing.
 use mathlib.Core.Path.{_≡_, refl, sym, ap, _∙_}
-use mathlib.Core.Bool.{Bool, true, false, _&&_, and-assoc, and-false}
-use Prim.Native.Nat.{ℕ, _+_, _-_, _*_, _/_, _%_, _≤_, _<_, min}
+use mathlib.Core.Bool.{Bool, true, false, _&&_, and-assoc, and-comm, and-false}
+use Prim.Native.Nat.{ℕ, _+_, _-_, _*_, _/_, _%_, _≤_, _<_}
 use native.Mathlib.Decide.{decLt}
 use native.Mathlib.Omega.{arith}
 use lib.Dec.{ltb, leb}
@@ -23,6 +23,7 @@ use Rattle.desk_sums.specs.declared.Sum.{Sum}
 use Rattle.desk_sums.specs.Laws.{none-fits, rest-adds, kept-adds, fits-used, fits-past}
 use Rattle.desk_sums.specs.Seats.{seat-adds}
 use Rattle.desk_sums.specs.Sums.{noSum, restOf, addKept, addSeatOf, slotCell, usedBy, sumFits, restFits, keptFits}
+use Rattle.desk_sums.specs.Sums.{addSeat, rowCount, recordFits}
 
 -- ---- what the loops make: cells below the count, up to c; cells past it, from n up to c; a row; all rows; seats
 unfoldable pub usedSum : (ℕ → Place) → (ℕ → Cell) → ℕ → Sum → ℕ → Sum
@@ -160,30 +161,35 @@ record-fits v r long row =
     row-adds (v .tray) r long (cellAt (v .row)) (v .desk) noSum
     ∙ rw (none-fits (v .tray .counts .desks), every-all (cellSound (v .tray) (v .desk)) (v .row) pastCell, row)
 
--- the whole test of a record; its row may be summed before the tray is known to be sound, to the count or to 32 if that is less
-pub record-sound : (v : Record) (n : ℕ) → length (v .tray .places) ≡ 32 → length (v .row) ≡ 32 → n ≡ min (v .tray .counts .cells) 32
-    → isSound v ≡ (traySound (v .tray)
-    && ltb (v .desk) (v .tray .counts .desks)
-    && sumFits (rowSum (placeAt (v .tray)) (cellAt (v .row)) (v .desk) n noSum) (v .tray .counts .desks)
-    && seatSound (v .tray) (v .desk) (v .seat)
-    && leb (v .seat .slot .kind) 2)
-unfolding isSound
-record-sound v n long row e =
-    ap (λ (x : Bool). x && seatSound (v .tray) (v .desk) (v .seat) && leb (v .seat .slot .kind) 2)
-    (go (traySound (v .tray)) (ltb (v .desk) (v .tray .counts .desks)) refl refl)
+-- the whole test of a record
+pub record-sound : (v : Record) → length (v .tray .places) ≡ 32 → length (v .row) ≡ 32
+    → recordFits (v .tray) (v .desk) (v .seat) (rowSum (placeAt (v .tray)) (cellAt (v .row)) (v .desk) (rowCount (v .tray .counts)) noSum) ≡ isSound v
+unfolding isSound recordFits
+record-sound v long row = go (traySound t) (ltb desk desks) refl refl
   where
-    fits : Bool
-    fits = sumFits (rowSum (placeAt (v .tray)) (cellAt (v .row)) (v .desk) n noSum) (v .tray .counts .desks)
+    t : Tray
+    t = v .tray
 
-    go : (a b : Bool) → traySound (v .tray) ≡ a → ltb (v .desk) (v .tray .counts .desks) ≡ b
-        → (traySound (v .tray) && ltb (v .desk) (v .tray .counts .desks) && cellsSound v)
-        ≡ (traySound (v .tray) && ltb (v .desk) (v .tray .counts .desks) && fits)
+    desk : ℕ
+    desk = v .desk
+
+    desks : ℕ
+    desks = t .counts .desks
+
+    turn : (a b c : Bool) → (a && (b && c)) ≡ (c && b && a)
+    turn a b c = and-comm a (b && c) ∙ ap (λ (x : Bool). x && a) (and-comm b c)
+
+    go : (a b : Bool) → traySound t ≡ a → ltb desk desks ≡ b
+        → recordFits t desk (v .seat) (rowSum (placeAt t) (cellAt (v .row)) desk (rowCount (t .counts)) noSum) ≡ isSound v
     go false b p q = rw p
     go true false p q = rw (p, q)
     go true true p q =
-        let r = tray-rule (v .tray) p in
-        let all : usedBy (v .tray .counts) (v .desk) ≡ n = rw q (omega (arith, r .cells-most)) in
-        ap (_&&_ (traySound (v .tray) && ltb (v .desk) (v .tray .counts .desks))) (sym (rw all at (record-fits v r long row)))
+        let r = tray-rule t p in
+        let all : usedBy (t .counts) desk ≡ rowCount (t .counts) = rw q (omega (arith, r .cells-most)) in
+        let beside : sumFits (addSeat noSum true (t .counts .cells) (keptBy (placeAt t (slotCell (v .seat))) desk) (v .seat)) desks
+        ≡ seatSound t desk (v .seat) = rw (q, none-fits desks) at (seat-adds t desk (v .seat) (r .cells-most) noSum) in
+        rw (p, q, beside, rw all at (record-fits v r long row))
+        (turn (leb (v .seat .slot .kind) 2) (seatSound t desk (v .seat)) (cellsSound v))
 
 pub cells-fit : (t : Tray) (entry : ℕ → Cell) (d : ℕ) → TrayRule t → length (t .places) ≡ 32
     → sumFits (cellsSum t entry d) (t .counts .desks) ≡ allBelow (λ i. cellSound t (i / 32) (i % 32) (entry i)) (d * 32)

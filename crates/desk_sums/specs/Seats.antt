@@ -1,14 +1,15 @@
 -- What one more seat adds to the test of a sum: its own soundness.
 -- Assumes nothing.
-use mathlib.Core.Path.{_≡_, refl, sym, ap, ap₂, _∙_}
-use mathlib.Core.Bool.{Bool, true, false, not, _&&_, _||_, cond, and-assoc, and-true, and-false, or-true, or-false}
+use mathlib.Core.Path.{_≡_, refl, ap, _∙_}
+use mathlib.Core.Bool.{Bool, true, false, not, _&&_, _||_, cond, and-assoc, and-false, or-true}
 use Prim.Native.Nat.{ℕ, _%_, _≤_, _<_}
-use native.Mathlib.Decide.{decLe, decLt, ℕ-discrete}
+use native.Mathlib.Decide.{decLt, ℕ-discrete}
 use native.Mathlib.Omega.{arith}
 use lib.Dec.{ltb, leb, eqb}
-use borrow.Author.Tests.{lt-ltb, le-ltb, le-leb, lt-leb, eq-eqb, ne-eqb}
+use borrow.Author.Tests.{le-ltb, ne-eqb}
 use Rattle.clock.specs.declared.Clock.{Clock}
 use Rattle.clock.specs.Clock.{isWithin}
+use Rattle.theory_lists.specs.Test.{gt-not-le, ge-not-lt}
 use Rattle.desk.specs.declared.Counts.{Counts}
 use Rattle.desk.specs.declared.Seat.{Seat}
 use Rattle.desk.specs.declared.Slot.{Slot}
@@ -18,13 +19,6 @@ use Rattle.desk.specs.Sound.{slotNames, slotCarries, slotSound, numbersOf, seat
 use Rattle.desk_sums.specs.declared.Sum.{Sum}
 use Rattle.desk_sums.specs.Sums.{addClock, slotBad, addSeat, addSeatOf, slotCell, sumFits, clockFits}
 use Rattle.desk_sums.specs.Laws.{noted-adds, clock-adds}
-
--- a test and the one that is its contrary
-le-or-lt : (a b : ℕ) → ltb b a ≡ not (leb a b)
-le-or-lt a b = elim (decLe a b) [ yes h ↦ rw (le-leb a b h, le-ltb b a h) | no h ↦ rw (lt-leb a b (omega arith), lt-ltb b a (omega arith)) ]
-
-lt-or-le : (a b : ℕ) → leb b a ≡ not (ltb a b)
-lt-or-le a b = elim (decLt a b) [ yes h ↦ rw (lt-ltb a b h, lt-leb b a h) | no h ↦ rw (le-ltb a b (omega arith), le-leb b a (omega arith)) ]
 
 -- the desk's own clock
 own-clock : (n : Counts) (desk : ℕ) (c : Clock) → clockFits (n .desks) (ltb desk (n .desks)) c 0 ≡ isWithin (numbersOf n desk) c
@@ -103,7 +97,7 @@ module _ (t : Tray) (desk : ℕ) (v : Seat) (most-cells : t .counts .cells ≤ 3
       && clockFits (t .counts .desks) (ltb desk (t .counts .desks) && leb 2 (v .slot .kind)) (v .slot .clock) (v .slot .word)
       && not (slotBad (ltb desk (t .counts .desks)) (t .counts .cells) own (v .slot) (v .served))) ≡ by summed
   unfolding by summed in-range none some clockFits slotBad
-  summed-is = rw (le-or-lt (v .slot .kind) 1, le-or-lt (v .slot .kind) 4, lt-or-le (v .slot .cell) (t .counts .cells))
+  summed-is = rw (gt-not-le (v .slot .kind) 1, gt-not-le (v .slot .kind) 4, ge-not-lt (v .slot .cell) (t .counts .cells))
 
   stated-is : by stated ≡ seatSound t desk v
   unfolding by stated first in-range none some seatSound slotSound slotNames slotCarries waits

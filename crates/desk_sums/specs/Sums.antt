@@ -2,7 +2,7 @@
 -- Assumes nothing.
 use mathlib.Core.Bool.{Bool, true, false, not, _&&_, _||_, cond}
 use mathlib.Core.List.{List}
-use Prim.Native.Nat.{ℕ, _%_}
+use Prim.Native.Nat.{ℕ, _%_, min}
 use lib.Bits.{bitOr}
 use lib.Dec.{ltb, leb, eqb}
 use lib.ListN.{drop}
@@ -14,7 +14,9 @@ use Rattle.desk.specs.declared.Counts.{Counts}
 use Rattle.desk.specs.declared.Place.{Place}
 use Rattle.desk.specs.declared.Seat.{Seat}
 use Rattle.desk.specs.declared.Slot.{Slot}
-use Rattle.desk.specs.Desk.{Word, isNoWord, oneIf, keptBy}
+use Rattle.desk.specs.declared.Tray.{Tray}
+use Rattle.desk.specs.Desk.{Word, isNoWord, oneIf, placeAt, keptBy}
+use Rattle.desk.specs.Sound.{traySound}
 use Rattle.desk_sums.specs.declared.Sum.{Sum}
 
 abbrev pub noSum : Sum
@@ -70,6 +72,18 @@ usedBy n desk = cond (ltb desk (n .desks)) (n .cells) 0
 -- ---- the test
 unfoldable pub sumFits : Sum → ℕ → Bool
 sumFits s desks = eqb (s .w) 0 && eqb (bitOr (orPast (s .z) 0) (orPast (s .h) desks)) 0
+
+-- a record's: how far its row is looked at as the tray's, and the test, from the row's sum
+abbrev pub rowCount : Counts → ℕ
+rowCount n = min (n .cells) 32
+
+unfoldable pub recordFits : Tray → ℕ → Seat → Sum → Bool
+recordFits t desk v row =
+    traySound t
+    && (ltb desk (t .counts .desks)
+    && leb (v .slot .kind) 2
+    && (sumFits (addSeat noSum true (t .counts .cells) (keptBy (placeAt t (slotCell v)) desk) v) (t .counts .desks)
+    && sumFits row (t .counts .desks)))
 
 -- ---- what each adds to the test
 unfoldable pub clockFits : ℕ → Bool → Clock → Word → Bool

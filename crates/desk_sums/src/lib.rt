@@ -2,13 +2,16 @@
 // A walk over a table's or a record's entries calls these, each on small things by value.
 ghost use mathlib.Core.Path.{_≡_};
 ghost use Rattle.desk.specs.Desk.{keptBy};
-ghost use Rattle.desk_sums.specs.Sums.{noSum, joined, orPast, restOf, addKept, addClock, slotBad, addSeat, addSeatOf, slotCell, sumFits, usedBy};
+ghost use Rattle.desk_sums.specs.Sums.{noSum, joined, orPast, restOf, addKept, addClock, slotBad, addSeat, addSeatOf, slotCell, sumFits};
+ghost use Rattle.desk_sums.specs.Sums.{usedBy, recordFits, rowCount};
 use clock::Clock;
 use desk::Cell;
 use desk::Counts;
 use desk::Place;
 use desk::Seat;
 use desk::Slot;
+use desk::Tray;
+use desk::sound::tray_sound;
 
 // h is over what may have a number for each desk, z over clocks that must be zero, w over what else must be.
 // (w is wider than a clock's numbers, else the compiler takes those one by one.)
@@ -180,10 +183,38 @@ pub fn used_by(n: Counts, d: usize) -> usize
     0
 }
 
+// The same, told the counts.
+pub fn sum_fits_in(s: Sum, n: Counts) -> bool
+    ensures { λ r. ⌜ r ≡ sumFits s (n .desks) ⌝ }
+{
+    sum_fits(s, n.desks)
+}
+
 pub fn sum_fits(s: Sum, desks: u8) -> bool
     ensures { λ r. ⌜ r ≡ sumFits s desks ⌝ }
 {
     let h = s.h;
     let z = s.z;
     (s.w == 0) & ((or8(z) | or_past(h, desks as usize)) == 0)
+}
+
+// A record without its row, and the row's sum: whether the record is sound.
+pub fn record_fits(t: Tray, desk: u8, v: Seat, row: Sum) -> bool
+    ensures { λ r. ⌜ r ≡ recordFits t desk v row ⌝ }
+{
+    if !tray_sound(t) {
+        return false;
+    }
+    let n = t.counts;
+    let slot = v.slot;
+    let p = t.places[slot_cell(v)];
+    let beside = add_seat(no_sum(), true, n.cells, p.keeper == desk, v);
+    (desk < n.desks) & (slot.kind <= 2) & (sum_fits(beside, n.desks) & sum_fits(row, n.desks))
+}
+
+// How far a record's row is looked at as the tray's, before the tray is known to be sound.
+pub fn row_count(n: Counts) -> usize
+    ensures { λ r. ⌜ r ≡ rowCount n ⌝ }
+{
+    if n.cells < 32 { n.cells as usize } else { 32 }
 }

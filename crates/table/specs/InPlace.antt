@@ -5,7 +5,7 @@ use mathlib.Core.Bool.{Bool, true, false, _&&_, cond}
 use mathlib.Core.Logic.{⊎-elim}
 use Prim.Native.Nat.{ℕ, _+_, _*_, _<_}
 use native.Mathlib.Omega.{arith}
-use borrow.Author.Tests.{eq-eqb, ne-eqb}
+use borrow.Author.Tests.{eq-eqb, ne-eqb, lt-ltb}
 use lib.Dec.{eqb}
 use lib.ListN.{length, getD, set, length-set}
 use lib.Seq.{getD-set-same}
@@ -19,7 +19,7 @@ use Rattle.desk.specs.declared.Reply.{Reply}
 use Rattle.desk.specs.declared.Seat.{Seat}
 use Rattle.desk.specs.declared.Step.{Step}
 use Rattle.desk.specs.Parts.{changeOf, askedFor, askingSeat, raisedSeat, readReply, writeReply, ownReply, tookSeat, answeredSeat, homeSeat, broughtCell, broughtReply}
-use Rattle.desk.specs.Desk.{Word, noWord, isBlank, noCell, noSlot, pastCell, cellAt, keeps, heldCell, isCopy, leftAt, leftOf, lossOf, answerKind, isOwn}
+use Rattle.desk.specs.Desk.{Word, noWord, isBlank, noCell, pastCell, cellAt, placeAt, keptBy, keeps, heldCell, isCopy, leftAt, leftOf, lossOf, answerKind, isOwn}
 use Rattle.desk.specs.Kept.{holds-row, no-cell-rule}
 use Rattle.desk.specs.RuleLaws.{own-is, asked-kind}
 use Rattle.desk.specs.Rules.{withClock, withSlot, withSeat, withRow, holds, shownCode, markedServed, takes, readServed, writeServed, serveDone, brings, bringDone}
@@ -282,75 +282,83 @@ module _ (t : Table) (e : Event) (a : Passed t e) (k : e .kind ≡ 4) where
       λ i. record { code = bringReply t d .code; value = slotOf t d .word; count = count i }
 
 -- ---- 1 Read, 2 Write, 5 Drop
--- the cell that the event names, and whether its desk keeps it
-abbrev pub namedCell : Table → Event → Cell
-namedCell t e = cellAt (t .cells) (e .desk * 32 + e .cell)
+-- the cell of desk d that an event names, and whether the desk keeps it
+abbrev pub cellIn : Table → ℕ → ℕ → Cell
+cellIn t d c = cellAt (t .cells) (d * 32 + c)
 
-abbrev pub changeIn : Table → Event → ℕ
-changeIn t e = changeOf (keeps (t .tray) (e .desk) (e .cell)) (namedCell t e) e
+abbrev pub keptIn : Table → ℕ → ℕ → Bool
+keptIn t d c = keptBy (placeAt (t .tray) c) d
 
-abbrev pub askedIn : Table → Event → Table
-askedIn t e = cond (eqb (changeIn t e) 1) (withSeatOf t (e .desk) (askingSeat (seatOf t (e .desk)) (e .desk) e)) t
+abbrev pub changeIn : Table → ℕ → ℕ → Event → ℕ
+changeIn t d c e = changeOf (keptIn t d c) (cellIn t d c) e
 
-abbrev pub storedIn : Table → Event → Table
-storedIn t e =
-    cond (eqb (changeIn t e) 2) (storeIn (askedIn t e) (e .desk) (e .cell) (raisedSeat (seatOf t (e .desk)) (e .desk)) (e .word)) (askedIn t e)
+abbrev pub askedIn : Table → ℕ → ℕ → Event → Table
+askedIn t d c e = cond (eqb (changeIn t d c e) 1) (withSeatOf t d (askingSeat (seatOf t d) d e)) t
 
-unfoldable pub ownIn : Table → Event → Table
-ownIn t e = cond (eqb (changeIn t e) 3) (withCell (storedIn t e) (e .desk * 32 + e .cell) noCell) (storedIn t e)
+abbrev pub storedIn : Table → ℕ → ℕ → Event → Table
+storedIn t d c e = cond (eqb (changeIn t d c e) 2) (storeIn (askedIn t d c e) d c (raisedSeat (seatOf t d) d) (e .word)) (askedIn t d c e)
+
+unfoldable pub ownIn : Table → ℕ → ℕ → Event → Table
+ownIn t d c e = cond (eqb (changeIn t d c e) 3) (withCell (storedIn t d c e) (d * 32 + c) noCell) (storedIn t d c e)
+
+unfoldable pub ownReplyIn : Table → ℕ → ℕ → Event → Reply
+ownReplyIn t d c e = ownReply (keptIn t d c) (cellIn t d c) e
 
 module _ (t : Table) (e : Event) (a : Passed t e) (o : isOwn e ≡ true) where
   abbrev mine : Record
   mine = recordOf t (e .desk)
 
+  abbrev x : Cell
+  x = cellIn t (e .desk) (e .cell)
+
+  abbrev kept : Bool
+  kept = keptIn t (e .desk) (e .cell)
+
+  abbrev sized : Sized t
+  sized = a .sound .sized
+
   below : e .cell < 32
   below = own-there t e a o .1
 
-  named-is : cellAt (mine .row) (e .cell) ≡ namedCell t e
+  named-is : cellAt (mine .row) (e .cell) ≡ x
   named-is = entry-is t (e .desk) (e .cell) below
 
-  -- the outcome of the desk's event, by its kind
-  abbrev Is : Table → Reply → Type 0
-  Is u r = (u ≡ ownRule t e .after) × (r ≡ ownRule t e .reply)
+  kept-is : keeps (t .tray) (e .desk) (e .cell) ≡ kept
+  unfolding keeps
+  kept-is = rw (lt-ltb (e .cell) (t .tray .counts .cells) (a .seat .in-range o))
 
-  abbrev x : Cell
-  x = namedCell t e
+  -- what the code makes is what the rule says
+  abbrev Is : Type 0
+  Is = (ownIn t (e .desk) (e .cell) e ≡ ownRule t e .after) × (ownReplyIn t (e .desk) (e .cell) e ≡ ownRule t e .reply)
 
-  abbrev kept : Bool
-  kept = keeps (t .tray) (e .desk) (e .cell)
-
-  abbrev z0 : Sized t
-  z0 = a .sound .sized
-
-  read-is : e .kind ≡ 1 → Is (ownIn t e) (ownReply kept x e)
-  unfolding ownIn ownReply readReply ownRule outcome eventDone readRule changeOf askedFor recordOf
+  read-is : e .kind ≡ 1 → Is
+  unfolding ownIn ownReplyIn ownReply readReply ownRule outcome eventDone readRule changeOf askedFor recordOf
   read-is k = go (x .held) refl
     where
-      go : (b : Bool) → x .held ≡ b → Is (ownIn t e) (ownReply kept x e)
-      go true q = rw (eq-eqb (e .kind) 1 k, named-is, q) (sym (put-none t (e .desk) z0 (here t e a)), refl)
+      go : (b : Bool) → x .held ≡ b → Is
+      go true q = rw (eq-eqb (e .kind) 1 k, named-is, q) (sym (put-none t (e .desk) sized (here t e a)), refl)
       go false q =
           rw (eq-eqb (e .kind) 1 k, named-is, q)
-          (seat-put t (e .desk) z0 (here t e a) (withSlot (seatOf t (e .desk)) (readAsked (e .cell)) false), refl)
+          (seat-put t (e .desk) sized (here t e a) (withSlot (seatOf t (e .desk)) (readAsked (e .cell)) false), refl)
 
-  write-is : e .kind ≡ 2 → Is (ownIn t e) (ownReply kept x e)
-  unfolding ownIn ownReply writeReply ownRule outcome eventDone writeRule changeOf askedFor recordOf
+  write-is : e .kind ≡ 2 → Is
+  unfolding ownIn ownReplyIn ownReply writeReply ownRule outcome eventDone writeRule changeOf askedFor recordOf
   write-is k = go kept refl
     where
-      go : (b : Bool) → kept ≡ b → Is (ownIn t e) (ownReply kept x e)
+      go : (b : Bool) → kept ≡ b → Is
       go true q =
-          rw (ne-eqb (e .kind) 1 (omega arith), eq-eqb (e .kind) 2 k, q)
-          (store-in t (e .desk) (e .cell) (raisedSeat (seatOf t (e .desk)) (e .desk)) (e .word) z0 (here t e a) below, refl)
+          rw (ne-eqb (e .kind) 1 (omega arith), eq-eqb (e .kind) 2 k, kept-is, q)
+          (store-in t (e .desk) (e .cell) (raisedSeat (seatOf t (e .desk)) (e .desk)) (e .word) sized (here t e a) below, refl)
       go false q =
-          rw (ne-eqb (e .kind) 1 (omega arith), eq-eqb (e .kind) 2 k, q)
-          (seat-put t (e .desk) z0 (here t e a)
+          rw (ne-eqb (e .kind) 1 (omega arith), eq-eqb (e .kind) 2 k, kept-is, q)
+          (seat-put t (e .desk) sized (here t e a)
           (withSlot (seatOf t (e .desk)) (writeAsked (e .cell) (e .word) (raised (seatOf t (e .desk) .clock) (e .desk))) false), refl)
 
-  drop-is : e .kind ≡ 5 → Is (ownIn t e) (ownReply kept x e)
-  unfolding ownIn ownReply ownRule outcome eventDone dropRule changeOf isCopy recordOf
+  drop-is : e .kind ≡ 5 → Is
+  unfolding ownIn ownReplyIn ownReply ownRule outcome eventDone dropRule changeOf isCopy recordOf
   drop-is k =
-      rw (ne-eqb (e .kind) 1 (omega arith), ne-eqb (e .kind) 2 (omega arith), named-is)
-      (cell-put t (e .desk) z0 (here t e a) (e .cell) noCell below, refl)
+      rw (ne-eqb (e .kind) 1 (omega arith), ne-eqb (e .kind) 2 (omega arith), kept-is, named-is)
+      (cell-put t (e .desk) sized (here t e a) (e .cell) noCell below, refl)
 
-  pub own-in : (ownIn t e ≡ ownRule t e .after)
-      × (ownReply (keeps (t .tray) (e .desk) (e .cell)) (namedCell t e) e ≡ ownRule t e .reply)
+  pub own-in : (ownIn t (e .desk) (e .cell) e ≡ ownRule t e .after) × (ownReplyIn t (e .desk) (e .cell) e ≡ ownRule t e .reply)
   own-in = ⊎-elim read-is (⊎-elim write-is drop-is) (own-is e o)

@@ -1,14 +1,17 @@
 -- Tests, one at each place: whether all pass, whether one does. Each as a loop finds it, and as a rule at each place, both ways.
 -- A place past the end passes where all must, and fails where one must.
 -- Assumes nothing.
-use mathlib.Core.Path.{_≡_, refl, sym, _∙_}
-use mathlib.Core.Bool.{Bool, true, false, _&&_, _||_, cond, and-assoc, or-assoc, and-true, or-true, or-false}
+use mathlib.Core.Path.{_≡_, refl, sym, ap, _∙_}
+use mathlib.Core.Bool.{Bool, true, false, not, _&&_, _||_, cond, and-assoc, or-assoc, and-true, or-true, or-false, Bool·not-not}
 use mathlib.Core.List.{List, [], _∷_}
 use Prim.Native.Nat.{ℕ, zero, suc, _+_, _<_, _≤_}
+use native.Mathlib.Decide.{decLe}
 use native.Mathlib.Numerals.{add-one}
 use native.Mathlib.Omega.{arith}
+use lib.Dec.{leb, ltb}
 use lib.ListN.{length, getD, drop, drop-of-length-le}
 use lib.Seq.{drop-cons}
+use borrow.Author.Tests.{lt-ltb, le-ltb, le-leb, lt-leb}
 use Rattle.theory_lists.specs.Each.{mapAt, length-mapAt, getD-mapAt}
 
 unfoldable pub every : List Bool → Bool
@@ -40,6 +43,13 @@ both-left false b e = e
 pub both-right : (a b : Bool) → (a && b) ≡ true → b ≡ true
 both-right true b e = e
 both-right false b e = cc
+
+-- a comparison and its contrary
+pub gt-not-le : (a b : ℕ) → ltb b a ≡ not (leb a b)
+gt-not-le a b = elim (decLe a b) [ yes h ↦ rw (le-leb a b h, le-ltb b a h) | no h ↦ rw (lt-leb a b (omega arith), lt-ltb b a (omega arith)) ]
+
+pub ge-not-lt : (a b : ℕ) → leb b a ≡ not (ltb a b)
+ge-not-lt a b = sym (ap not (gt-not-le b a) ∙ Bool·not-not (leb b a))
 
 -- what holds of both holds of the one that a test chooses
 pub whichever : {A : Type 0} (P : A → Type 0) (b : Bool) (x y : A) → P x → P y → P (cond b x y)
