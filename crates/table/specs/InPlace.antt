@@ -5,7 +5,7 @@ use mathlib.Core.Bool.{Bool, true, false, _&&_, cond}
 use mathlib.Core.Logic.{⊎-elim}
 use Prim.Native.Nat.{ℕ, _+_, _*_, _<_}
 use native.Mathlib.Omega.{arith}
-use borrow.Author.Tests.{eq-eqb, ne-eqb, lt-ltb}
+use borrow.Author.Tests.{eqb-true, eqb-false, eq-eqb, ne-eqb, lt-ltb}
 use lib.Dec.{eqb}
 use lib.ListN.{length, getD, set, length-set}
 use lib.Seq.{getD-set-same}
@@ -31,8 +31,8 @@ use Rattle.table.specs.declared.Outcome.{Outcome}
 use Rattle.table.specs.declared.Table.{Table}
 use Rattle.table.specs.Changes.{withCell, withSeatOf, lostOf, lostCount, put-none, cell-put, seat-put, lost-put, lost-count, put-put}
 use Rattle.table.specs.Rows.{Sized, row-length, put-sized, put-same, put-other}
-use Rattle.table.specs.RuleLaws.{Passed, here, take-asks, bring-asks, take-there, bring-there, own-there}
-use Rattle.table.specs.Rules.{messageOf, outcome, answerSlot, answered, putAnswer, keeperStep, takeRule, bringRule, ownRule}
+use Rattle.table.specs.RuleLaws.{Passed, pass, own-kind, here, take-asks, bring-asks, take-there, bring-there, own-there}
+use Rattle.table.specs.Rules.{messageOf, outcome, answerSlot, answered, putAnswer, keeperStep, takeRule, bringRule, ownRule, refusal, done}
 use Rattle.table.specs.SoundLaws.{entry-is, desk-below}
 use Rattle.table.specs.Table.{seatOf, slotOf, keeperFor, recordOf, putBack}
 
@@ -362,3 +362,25 @@ module _ (t : Table) (e : Event) (a : Passed t e) (o : isOwn e ≡ true) where
 
   pub own-in : (ownIn t (e .desk) (e .cell) e ≡ ownRule t e .after) × (ownReplyIn t (e .desk) (e .cell) e ≡ ownRule t e .reply)
   own-in = ⊎-elim read-is (⊎-elim write-is drop-is) (own-is e o)
+
+-- ---- an event that is not refused, by the tests that the code makes
+module _ (t : Table) (e : Event) (z : Sized t) (none : refusal t e ≡ 0) where
+  abbrev passed : Passed t e
+  passed = pass t e z none
+
+  pub done-take : eqb (e .kind) 3 ≡ true → (takeReply t (e .desk) ≡ done t e .reply) × (takeIn t (e .desk) ≡ done t e .after)
+  unfolding done
+  done-take q = let k = eqb-true (e .kind) 3 q in rw q (take-reply t e passed k, take-in t e passed k)
+
+  module _ (p : eqb (e .kind) 3 ≡ false) where
+    pub done-bring : eqb (e .kind) 4 ≡ true → (bringReply t (e .desk) ≡ done t e .reply) × (bringIn t (e .desk) ≡ done t e .after)
+    unfolding done
+    done-bring q = let k = eqb-true (e .kind) 4 q in rw (p, q) (bring-reply t e passed k, bring-in t e passed k)
+
+    module _ (q : eqb (e .kind) 4 ≡ false) where
+      pub is-own-kind : isOwn e ≡ true
+      is-own-kind = own-kind e (passed .kind .0) (passed .kind .1) (eqb-false (e .kind) 3 p) (eqb-false (e .kind) 4 q)
+
+      pub done-own : (ownReplyIn t (e .desk) (e .cell) e ≡ done t e .reply) × (ownIn t (e .desk) (e .cell) e ≡ done t e .after)
+      unfolding done
+      done-own = let o = own-in t e passed is-own-kind in rw (p, q) (o .1, o .0)

@@ -6,7 +6,7 @@ ghost use Rattle.desk_sums.specs.Rows.{usedSum, pastSum, cellsSum, seatsSum};
 ghost use Rattle.table.specs.Sound.{tableSound};
 ghost use Rattle.table.specs.Table.{seatOf};
 use desk::sound::tray_sound;
-use desk_parts::at;
+use desk_acts::at;
 use desk_sums::Sum;
 use desk_sums::add_kept;
 use desk_sums::add_seat_of;
