@@ -91,8 +91,7 @@ boolean = record { F = bool-field; L = LL.bool-laws; facts = LL.bool-plain; one 
 abbrev pub unit : Plain
 unit = record { F = unit-field; L = LL.unit-laws; facts = LL.unit-plain; one = refl }
 
--- a declared struct as its generated modules have it, and that its ghost fields ask nothing: `record { N = T.struct; props = T.propositions;
--- laws = T′.the-laws; lowers = T′.lowers; facts = T′.the-plain; same = λ d. refl; free = λ v. tt }`, with T′ the module `T.Laws`
+-- a declared struct as its generated modules have it, and that its ghost fields ask nothing
 pub record Form : Type 2 where
   pub N : Record
   pub props : Propositions N
@@ -101,6 +100,13 @@ pub record Form : Type 2 where
   pub facts : Plains (fields (declared N props))
   pub same : (d : N .D) → lowers .lowered d ≡ vstruct (ofList (LL.lows (N .parts) laws (N .as-values d)))
   pub free : (v : Values (N .parts)) → N .Ghost v
+
+-- of T: `form T.struct T.propositions T′.the-laws T′.lowers T′.the-plain (λ d. refl) (λ v. tt)`, with T′ its module `Laws`
+abbrev pub form : (N : Record) (props : Propositions N) (laws : LL.Laws (declared N props)) (lowers : LL.Lowered (declared N props))
+    → Plains (fields (declared N props))
+    → ((d : N .D) → lowers .lowered d ≡ vstruct (ofList (LL.lows (N .parts) laws (N .as-values d)))) → ((v : Values (N .parts)) → N .Ghost v) → Form
+form N props laws lowers facts same free =
+    record { N = N; props = props; laws = laws; lowers = lowers; facts = facts; same = same; free = free }
 
 abbrev pub struct : Form → Plain
 struct S = record {
