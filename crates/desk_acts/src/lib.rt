@@ -265,6 +265,13 @@ pub fn desk_of(e: Event) -> usize
     e.desk as usize
 }
 
+pub fn desk_byte(e: Event) -> u8
+    requires { ⌜ e .desk < 8 ⌝ }
+    ensures { λ r. ⌜ r ≡ e .desk ⌝ }
+{
+    e.desk as u8
+}
+
 pub fn cell_of(e: Event) -> usize
     ensures { λ r. ⌜ r ≡ e .cell ⌝ }
 {

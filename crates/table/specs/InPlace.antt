@@ -350,9 +350,11 @@ module _ (t : Table) (e : Event) (a : Passed t e) (o : isOwn e ≡ true) where
           rw (ne-eqb (e .kind) 1 (omega arith), eq-eqb (e .kind) 2 k, kept-is, q)
           (store-in t (e .desk) (e .cell) (raisedSeat (seatOf t (e .desk)) (e .desk)) (e .word) sized (here t e a) below, refl)
       go false q =
-          rw (ne-eqb (e .kind) 1 (omega arith), eq-eqb (e .kind) 2 k, kept-is, q)
-          (seat-put t (e .desk) sized (here t e a)
-          (withSlot (seatOf t (e .desk)) (writeAsked (e .cell) (e .word) (raised (seatOf t (e .desk) .clock) (e .desk))) false), refl)
+          rw (ne-eqb (e .kind) 1 (omega arith), eq-eqb (e .kind) 2 k, kept-is, q) (
+            seat-put t (e .desk) sized (here t e a)
+                (withSlot (seatOf t (e .desk)) (writeAsked (e .cell) (e .word) (raised (seatOf t (e .desk) .clock) (e .desk))) false),
+            refl,
+          )
 
   drop-is : e .kind ≡ 5 → Is
   unfolding ownIn ownReplyIn ownReply ownRule outcome eventDone dropRule changeOf isCopy recordOf

@@ -17,11 +17,11 @@ use desk_sums::slot_cell;
 use desk_sums::sum_fits_in;
 use desk_sums::used_by;
 use table::Table;
-use table_cells::cell_at;
-use table_cells::counts_of;
-use table_cells::place_at;
-use table_cells::seat_of;
-use table_cells::tray_of;
+use table_parts::cell_at;
+use table_parts::counts;
+use table_parts::place;
+use table_parts::seat_of;
+use table_parts::tray;
 
 // The first n cells of desk d, which are the tray's.
 fn used_sum(t: &mut Table, d: usize, n: usize, s: Sum) -> Sum
@@ -31,7 +31,7 @@ fn used_sum(t: &mut Table, d: usize, n: usize, s: Sum) -> Sum
     let mut sum = s;
     let mut c: usize = 0;
     while c < n {
-        sum = add_kept(sum, keeps(place_at(t, c), d), cell_at(t, at(d, c)));
+        sum = add_kept(sum, keeps(place(t, c), d), cell_at(t, at(d, c)));
         c = c + 1;
     }
     sum
@@ -58,7 +58,7 @@ fn cells_sum(t: &mut Table) -> Sum
     let mut sum = no_sum();
     let mut d: usize = 0;
     while d < 8 {
-        let n = used_by(counts_of(t), d);
+        let n = used_by(counts(t), d);
         sum = used_sum(t, d, n, sum);
         sum = past_sum(t, d, n, sum);
         d = d + 1;
@@ -73,7 +73,7 @@ fn seats_sum(t: &mut Table) -> Sum
     let mut d: usize = 0;
     while d < 8 {
         let s = seat_of(t, d);
-        sum = add_seat_of(sum, counts_of(t), d, place_at(t, slot_cell(s)), s);
+        sum = add_seat_of(sum, counts(t), d, place(t, slot_cell(s)), s);
         d = d + 1;
     }
     sum
@@ -82,11 +82,11 @@ fn seats_sum(t: &mut Table) -> Sum
 pub fn sound(t: &mut Table) -> bool
     ensures { λ r. ⌜ (r ≡ tableSound (now (t .entry))) × (now (t .exit) ≡ now (t .entry)) ⌝ }
 {
-    if !tray_sound(tray_of(t)) {
+    if !tray_sound(tray(t)) {
         return false;
     }
-    if !sum_fits_in(seats_sum(t), counts_of(t)) {
+    if !sum_fits_in(seats_sum(t), counts(t)) {
         return false;
     }
-    sum_fits_in(cells_sum(t), counts_of(t))
+    sum_fits_in(cells_sum(t), counts(t))
 }

@@ -1,0 +1,58 @@
+-- The table and its parts for the walks (crate `walks`), and what each function of this crate does, as its callers cite it.
+-- Assumes nothing.
+use mathlib.Core.Path.{refl}
+use Rattle.desk.specs.Desk.{noCell, noPlace, pastCell, pastSeat}
+use Rattle.desk_parts.proofs.Parts.{cell, spot, counts as both-counts, tray as whole-tray, seat, counts-of-tray, places-of-tray}
+use Rattle.table.proofs.Table as T
+use Rattle.table.proofs.Table.Laws as T′
+use Rattle.walks.proofs.Access.{getter, getter-at, setter-at, clearer-at}
+use Rattle.walks.proofs.Lent.{LentFn}
+use Rattle.walks.proofs.Parts.{Part, Row, of, field-of}
+use Rattle.walks.proofs.Plain.{Plain, Form, form, struct}
+
+abbrev pub table-form : Form
+table-form = form T.struct T.propositions T′.the-laws T′.lowers T′.the-plain (λ d. refl) (λ v. tt)
+
+abbrev pub table : Plain
+table = struct table-form
+
+-- ---- the parts
+abbrev pub cells-in : Row table cell 256
+cells-in = record { part = field-of table-form 0 refl refl; past = pastCell; fits = tt }
+
+abbrev pub tray-in : Part table whole-tray
+tray-in = field-of table-form 1 refl refl
+
+abbrev pub counts-in : Part table both-counts
+counts-in = of tray-in counts-of-tray
+
+abbrev pub places-in : Row table spot 32
+places-in = record { part = of tray-in places-of-tray; past = noPlace; fits = tt }
+
+abbrev pub seats-in : Row table seat 8
+seats-in = record { part = field-of table-form 2 refl refl; past = pastSeat; fits = tt }
+
+-- ---- the functions
+abbrev pub counts : LentFn table
+counts = getter counts-in
+
+abbrev pub tray : LentFn table
+tray = getter tray-in
+
+abbrev pub place : LentFn table
+place = getter-at places-in
+
+abbrev pub seat-of : LentFn table
+seat-of = getter-at seats-in
+
+abbrev pub put-seat : LentFn table
+put-seat = setter-at seats-in
+
+abbrev pub cell-at : LentFn table
+cell-at = getter-at cells-in
+
+abbrev pub put-cell : LentFn table
+put-cell = setter-at cells-in
+
+abbrev pub clear-cell : LentFn table
+clear-cell = clearer-at cells-in noCell

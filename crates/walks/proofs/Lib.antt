@@ -1,0 +1,9 @@
+pub mod Access
+pub mod Callees
+pub mod Element
+pub mod Frame
+pub mod Lent
+pub mod Locals
+pub mod Parts
+pub mod Plain
+pub mod Walk
