@@ -16,9 +16,9 @@ use Rattle.table.proofs.Outcome as Outcome
 use Rattle.table.proofs.Outcome.Laws as Outcome′
 use Rattle.table.proofs.Table as Table
 use Rattle.table.proofs.Table.Laws as Table′
-use Rattle.cwmorlais.specs.Answers.{answerOf}
-use Rattle.cwmorlais.proofs.Answer as Answer
-use Rattle.cwmorlais.proofs.Answer.Laws as Answer′
+use Rattle.desk.specs.Rules.{answerOf}
+use Rattle.desk.proofs.Answer as Answer
+use Rattle.desk.proofs.Answer.Laws as Answer′
 use Rattle.cwmorlais.proofs.Walk.{Lending}
 
 -- a desk's record; the answer is the step's reply and message

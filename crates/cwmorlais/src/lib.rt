@@ -1,11 +1,11 @@
 // The library for Rust and C. A lent record or table is loaded, goes through a step by value, and is stored.
 ghost use mathlib.Core.Path.{_≡_};
-ghost use Rattle.desk.specs.Rules.{eventRule, serveRule, bringRule};
+ghost use Rattle.desk.specs.Rules.{answerOf, eventRule, serveRule, bringRule};
 ghost use Rattle.desk.specs.Start.{startRule};
 ghost use Rattle.frame.specs.Frame.{readRule, writeRule, outputRule};
 ghost use Rattle.table.specs.Rules.{eventRule as tableRule};
 ghost use Rattle.table.specs.SetUp.{setUpRule};
-ghost use Rattle.cwmorlais.specs.Answers.{answerOf};
+use desk::Answer;
 use desk::Event;
 use desk::Message;
 use desk::Plan;
@@ -16,13 +16,6 @@ use frame::Reading;
 use frame::Written;
 use table::SetUp;
 use table::Table;
-
-// What a step gives beside the record, which goes back to the lender.
-#[repr(C)]
-pub struct Answer {
-    pub reply: Reply,
-    pub message: Message,
-}
 
 // A desk's fresh record.
 #[no_mangle]
