@@ -2,7 +2,8 @@
 -- makes a sum.
 -- Assumes nothing.
 use mathlib.Core.Path.{_≡_, refl, sym, ap, subst}
-use mathlib.Core.Bool.{not}
+use mathlib.Core.Bool.{Bool, true, false, not, cond}
+use mathlib.Core.Option.{some}
 use mathlib.Core.List.{List, [], _∷_}
 use mathlib.Core.WellFounded.{WellFounded, InvImage·wf}
 use Prim.Native.Nat.{ℕ, _+_, _-_, _*_, _<_, _≤_}
@@ -11,6 +12,7 @@ use lib.Dec.{T, ltb, nltb→le}
 use lib.WfN.{Nat·lt-wfRel}
 use mir.Syntax.{w64}
 use mir.Val.{Fits}
+use Rattle.desk.specs.declared.Counts.{Counts}
 use Rattle.desk.specs.Desk.{cellAt, placeAt, keptBy}
 use Rattle.desk.specs.Sound.{traySound}
 use Rattle.desk_parts.proofs.Parts.{cell, spot, counts, tray, seat}
@@ -20,10 +22,12 @@ use Rattle.desk_sums.specs.declared.Sum.{Sum}
 use Rattle.desk_sums.specs.Rows.{usedSum, pastSum, cellsSum, seatsSum}
 use Rattle.desk_sums.specs.Sums.{noSum, restOf, addKept, addSeatOf, slotCell, usedBy, sumFits}
 use Rattle.table.specs.declared.Table.{Table}
+use Rattle.table.specs.Rows.{Sized}
 use Rattle.table.specs.Sound.{tableSound}
 use Rattle.table.specs.Table.{seatOf}
-use Rattle.table_parts.proofs.Parts.{table}
+use Rattle.table_parts.proofs.Parts.{table, cells-in, places-in, seats-in}
 use Rattle.walks.proofs.Lent.{LentFn, PlainFn, Pre, always, where-holds, gives}
+use Rattle.walks.proofs.Parts.{long}
 use Rattle.walks.proofs.Plain.{Plain, Of, val, IsOf, Args, Form, form, number, boolean, struct}
 
 abbrev pub sum-form : Form
@@ -55,6 +59,22 @@ seats-sum = finds [] sum always (λ t a. seatsSum (t .tray) (seatOf t) 8)
 
 abbrev pub sound : LentFn table
 sound = finds [] boolean always (λ t a. tableSound t)
+
+-- ---- what is known of a table that lies in memory, and of what a desk uses of it
+pub sized : (t : Table) → IsOf table t → Sized t
+sized t is =
+    record {
+      all-cells = long cell 256 (t .cells) (cells-in .part .get-is t is);
+      all-places = long spot 32 (t .tray .places) (places-in .part .get-is t is);
+      all-seats = long seat 8 (t .seats) (seats-in .part .get-is t is);
+    }
+
+pub used-few : (n : Counts) (d : ℕ) → n .cells ≤ 32 → usedBy n d ≤ 32
+used-few n d few = go (ltb d (n .desks))
+  where
+    go : (there : Bool) → cond there (n .cells) 0 ≤ 32
+    go true = few
+    go false = omega arith
 
 -- ---- by value
 abbrev value : (Ps : List Plain) (R : Plain) → (Args Ps → Of R) → PlainFn
@@ -114,26 +134,31 @@ module _ (f : ℕ → Sum) (m n : ℕ) where
   pub falls : WellFounded Later
   falls = InvImage·wf left (Nat·lt-wfRel .wf)
 
-  abbrev pub start : m ≤ n → (s : Sum) → f m ≡ s → IsOf sum s → Turn
-  start h s e is = record { c = m; low = omega arith; most = h; is = subst (IsOf sum) (sym e) is }
+  abbrev pub start : m ≤ n → {s : Sum} → f m ≡ s → IsOf sum s → Turn
+  start h e is = record { c = m; low = omega arith; most = h; is = subst (IsOf sum) (sym e) is }
 
-  module _ (x : Turn) where
-    -- one turn more
-    module _ (h : x .c < n) (few : n ≤ 32) where
-      pub count-is : IsOf (number w64) (x .c)
-      count-is = (refl, omega (arith, h, few))
+module _ {f : ℕ → Sum} {m n : ℕ} (x : Turn f m n) where
+  -- a turn more
+  module _ (h : x .c < n) (few : n ≤ 32) where
+    pub count-is : IsOf (number w64) (x .c)
+    count-is = (refl, omega (arith, h, few))
 
-      pub count-fits : Fits w64 (x .c + 1)
-      count-fits = record { fits = omega (arith, h, few) }
+    pub count-fits : Fits w64 (x .c + 1)
+    count-fits = record { fits = omega (arith, h, few) }
 
-    abbrev pub next : x .c < n → (s : Sum) → f (x .c + 1) ≡ s → IsOf sum s → Turn
-    next h s e is = record { c = x .c + 1; low = omega (arith, x .low); most = omega (arith, h); is = subst (IsOf sum) (sym e) is }
+  module _ (h : x .c < n) {s : Sum} (e : f (x .c + 1) ≡ s) (is : IsOf sum s) where
+    abbrev pub next : Turn f m n
+    next = record { c = x .c + 1; low = omega (arith, x .low); most = omega (arith, h); is = subst (IsOf sum) (sym e) is }
 
-    pub nearer : (h : x .c < n) (s : Sum) (e : f (x .c + 1) ≡ s) (is : IsOf sum s) → Later (next h s e is) x
-    nearer h s e is = omega (arith, h)
+    pub nearer : Later f m n next x
+    nearer = omega (arith, h)
 
-    -- the last
-    pub ended : (t : Table) → T (not (ltb (x .c) n)) → (val sum (f (x .c)) ≡ val sum (f n)) × IsOf sum (f n) × (t ≡ t) × Unit {2}
-    ended t over =
-        let last : x .c ≡ n = omega (arith, nltb→le (x .c) n over, x .most) in
-        (ap (λ (k : ℕ). val sum (f k)) last, subst (λ (k : ℕ). IsOf sum (f k)) last (x .is), refl, tt)
+  -- the last
+  pub ended : (t : Table) → T (not (ltb (x .c) n)) → (val sum (f (x .c)) ≡ val sum (f n)) × IsOf sum (f n) × (t ≡ t) × Unit {2}
+  ended t over =
+      let last : x .c ≡ n = omega (arith, nltb→le (x .c) n over, x .most) in
+      (ap (λ (k : ℕ). val sum (f k)) last, subst (λ (k : ℕ). IsOf sum (f k)) last (x .is), refl, tt)
+
+-- a local that has a sum
+pub laid : {s u : Sum} → u ≡ s → some (val sum s) ≡ some (val sum u)
+laid e = ap (λ (v : Sum). some (val sum v)) (sym e)

@@ -1,6 +1,6 @@
 -- `table_sound::used_sum` meets its contract.
 -- Assumes nothing.
-use mathlib.Core.Path.{_≡_, refl, sym, ap, subst}
+use mathlib.Core.Path.{_≡_, refl}
 use mathlib.Core.Option.{none, some}
 use mathlib.Core.List.{[], _∷_}
 use Prim.Native.Nat.{ℕ, _+_, _*_, _<_, _≤_}
@@ -9,7 +9,6 @@ use lib.Dec.{ltb→lt, lit<}
 use mir.Syntax.{w64}
 use mir.Val.{vint, vptr}
 use Rattle.desk.specs.declared.Cell.{Cell}
-use Rattle.desk.specs.declared.Place.{Place}
 use Rattle.desk.specs.Desk.{cellAt, placeAt, keptBy}
 use Rattle.desk_acts.proofs.at.Met as at-thm
 use Rattle.desk_acts.proofs.at.Symbol as at
@@ -26,10 +25,10 @@ use Rattle.table_parts.proofs.place.Met as place-thm
 use Rattle.table_parts.proofs.place.Symbol as place
 use Rattle.walks.proofs.Callees.{lent, valued}
 use Rattle.walks.proofs.Lent.{calling, W}
-use Rattle.walks.proofs.Plain.{IsOf, val, has-type}
-use Rattle.walks.proofs.Walk.{_⨟_, apart, joined}
+use Rattle.walks.proofs.Plain.{val, has-type}
+use Rattle.walks.proofs.Walk.{_⨟_, apart}
 use Rattle.table_sound.proofs.Sums as sums
-use Rattle.table_sound.proofs.Sums.{Turn, Later, falls, start, count-is, count-fits, next, nearer, ended}
+use Rattle.table_sound.proofs.Sums.{Turn, Later, falls, start, count-is, count-fits, next, nearer, ended, laid}
 use Rattle.table_sound.proofs.used_sum.Code as code
 use Rattle.table_sound.proofs.used_sum.Key as key
 use Rattle.table_sound.proofs.used_sum.Statement.{statement}
@@ -54,16 +53,15 @@ used-sum-spec 𝓤 H 𝓜 𝓖 𝓡 =
     let first : f 0 ≡ s = used-none (placeAt (t .tray)) cell d s in
     typed s is-s ⨟ tt ⨟ (tt, record { fits = lit< tt }) ⨟ Turn f 0 n ⨟ Later f 0 n ⨟ falls f 0 n
     ⨟ (λ x. (t, none ∷ some (vptr b o) ∷ some (vint w64 d) ∷ some (vint w64 n) ∷ none ∷ some (val sums.sum (f (x .c))) ∷ some (vint w64 (x .c)) ∷ []))
-    ⨟ start f 0 n (omega arith) s first is-s
-    ⨟ refl ⨟ (refl, (refl, (refl, (ap (λ (u : Sum). some (val sums.sum u)) (sym first), (refl, tt)))))
+    ⨟ start f 0 n (omega arith) first is-s ⨟ refl ⨟ (refl, (refl, (refl, (laid first, (refl, tt)))))
     ⨟ (λ x. let c : ℕ = x .c in
-    (tt ⨟ (tt, tt) ⨟ apart ((λ yes. let h : x .c < n = ltb→lt (x .c) n yes in let is-c = count-is f 0 n x h few in
+    (tt ⨟ (tt, tt) ⨟ apart ((λ yes. let h : x .c < n = ltb→lt (x .c) n yes in let is-c = count-is x h few in
     ((tt, tt) ⨟ _ ⨟ place-met ⨟ (c, tt) ⨟ ((is-c, tt), omega (arith, h, few)) ⨟ refl ⨟ refl ⨟ λ is-p.
     _ ⨟ keeps-met ⨟ (placeAt (t .tray) c, (d, tt)) ⨟ ((is-p, (is-d, tt)), tt) ⨟ refl ⨟ refl ⨟ λ is-k.
     (tt, tt) ⨟ _ ⨟ at-met ⨟ (d, (c, tt)) ⨟ ((is-d, (is-c, tt)), (need .0, omega (arith, h, few))) ⨟ refl ⨟ refl ⨟ λ is-i.
     _ ⨟ cell-met ⨟ (d * 32 + c, tt) ⨟ ((is-i, tt), omega (arith, need .0, h, few)) ⨟ refl ⨟ refl ⨟ λ is-x.
     _ ⨟ add-met ⨟ (f c, (keptBy (placeAt (t .tray) c) d, (cell c, tt))) ⨟ ((x .is, (is-k, (is-x, tt))), tt) ⨟ refl ⨟ refl ⨟ λ is-u.
     let more = used-next (placeAt (t .tray)) cell d s (x .c) in
-    tt ⨟ count-fits f 0 n x h few ⨟ (tt, count-fits f 0 n x h few)
-    ⨟ (next f 0 n x h _ more is-u, nearer f 0 n x h _ more is-u, refl, (refl, (refl, (refl, (ap (λ (u : Sum). some (val sums.sum u)) (sym more), (refl, tt))))), tt)))
-    ⨟ (λ over. (typed (f c) (x .is) ⨟ _ ⨟ refl ⨟ ended f 0 n x t over))))))
+    tt ⨟ count-fits x h few ⨟ (tt, count-fits x h few)
+    ⨟ (next x h more is-u, nearer x h more is-u, refl, (refl, (refl, (refl, (laid more, (refl, tt))))), tt)))
+    ⨟ (λ over. (typed (f c) (x .is) ⨟ _ ⨟ refl ⨟ ended x t over))))))
