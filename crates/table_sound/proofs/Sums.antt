@@ -2,7 +2,7 @@
 -- makes a sum.
 -- Assumes nothing.
 use mathlib.Core.Path.{_≡_, refl, sym, ap, subst}
-use mathlib.Core.Bool.{Bool, true, false, not, cond}
+use mathlib.Core.Bool.{Bool, true, false, not}
 use mathlib.Core.Option.{some}
 use mathlib.Core.List.{List, [], _∷_}
 use mathlib.Core.WellFounded.{WellFounded, InvImage·wf}
@@ -26,6 +26,7 @@ use Rattle.table.specs.Rows.{Sized}
 use Rattle.table.specs.Sound.{tableSound}
 use Rattle.table.specs.Table.{seatOf}
 use Rattle.table_parts.proofs.Parts.{table, cells-in, places-in, seats-in}
+use Rattle.theory_lists.specs.Test.{whichever}
 use Rattle.walks.proofs.Lent.{LentFn, PlainFn, Pre, always, where-holds, gives}
 use Rattle.walks.proofs.Parts.{long}
 use Rattle.walks.proofs.Plain.{Plain, Of, val, IsOf, Args, Form, form, number, boolean, struct}
@@ -70,11 +71,16 @@ sized t is =
     }
 
 pub used-few : (n : Counts) (d : ℕ) → n .cells ≤ 32 → usedBy n d ≤ 32
-used-few n d few = go (ltb d (n .desks))
-  where
-    go : (there : Bool) → cond there (n .cells) 0 ≤ 32
-    go true = few
-    go false = omega arith
+used-few n d few = whichever (λ k. k ≤ 32) (ltb d (n .desks)) (n .cells) 0 few (omega arith)
+
+-- ---- the arms of `if !b`
+pub fails : (b : Bool) → T (not b) → b ≡ false
+fails true h = absurd h
+fails false h = refl
+
+pub holds : (b : Bool) → T (not (not b)) → b ≡ true
+holds true h = refl
+holds false h = absurd h
 
 -- ---- by value
 abbrev value : (Ps : List Plain) (R : Plain) → (Args Ps → Of R) → PlainFn
