@@ -1,30 +1,30 @@
--- `table_sound::past_sum` meets its contract.
+-- `table_sound::past_sum` meets its contract. At the count c it has the sum of the cells from n to c.
 -- Assumes nothing.
 use mathlib.Core.Path.{_≡_, refl}
 use mathlib.Core.Option.{none, some}
 use mathlib.Core.List.{[], _∷_}
-use Prim.Native.Nat.{ℕ, _+_, _*_, _<_, _≤_}
+use Prim.Native.Nat.{ℕ, _+_, _*_, _<_}
 use native.Mathlib.Omega.{arith}
-use lib.Dec.{ltb→lt, lit<}
+use lib.Dec.{ltb→lt}
 use mir.Syntax.{w64}
 use mir.Val.{vint, vptr}
 use Rattle.desk.specs.declared.Cell.{Cell}
 use Rattle.desk.specs.Desk.{cellAt}
-use Rattle.desk_sums.specs.declared.Sum.{Sum}
-use Rattle.desk_sums.specs.Rows.{pastSum, past-none, past-next}
-use Rattle.table_sound.proofs.Sums.{Turn, Later, falls, start, count-is, count-fits, next, nearer, ended, laid}
 use Rattle.desk_acts.proofs.at.Met as at-thm
 use Rattle.desk_acts.proofs.at.Symbol as at
-use Rattle.table_parts.proofs.cell_at.Met as cell-at-thm
-use Rattle.table_parts.proofs.cell_at.Symbol as cell-at
 use Rattle.desk_sums.proofs.rest.Met as rest-thm
 use Rattle.desk_sums.proofs.rest.Symbol as rest
+use Rattle.desk_sums.specs.declared.Sum.{Sum}
+use Rattle.desk_sums.specs.Rows.{pastSum, past-none, past-next}
 use Rattle.table_parts.proofs.Parts as parts
+use Rattle.table_parts.proofs.cell_at.Met as cell-at-thm
+use Rattle.table_parts.proofs.cell_at.Symbol as cell-at
 use Rattle.walks.proofs.Callees.{lent, valued}
 use Rattle.walks.proofs.Lent.{calling, W}
 use Rattle.walks.proofs.Plain.{val, has-type}
 use Rattle.walks.proofs.Walk.{_⨟_, apart}
 use Rattle.table_sound.proofs.Sums as sums
+use Rattle.table_sound.proofs.Sums.{Turn, Later, falls, start, count-is, count-fits, next, nearer, ended, laid}
 use Rattle.table_sound.proofs.past_sum.Code as code
 use Rattle.table_sound.proofs.past_sum.Key as key
 use Rattle.table_sound.proofs.past_sum.Statement.{statement}

@@ -1,4 +1,4 @@
--- `table_sound::used_sum` meets its contract.
+-- `table_sound::used_sum` meets its contract. At the count c it has the sum of the first c cells.
 -- Assumes nothing.
 use mathlib.Core.Path.{_≡_, refl}
 use mathlib.Core.Option.{none, some}
@@ -52,7 +52,11 @@ used-sum-spec 𝓤 H 𝓜 𝓖 𝓡 =
     let f : ℕ → Sum = λ c. usedSum (placeAt (t .tray)) cell d s c in
     let first : f 0 ≡ s = used-none (placeAt (t .tray)) cell d s in
     typed s is-s ⨟ tt ⨟ (tt, record { fits = lit< tt }) ⨟ Turn f 0 n ⨟ Later f 0 n ⨟ falls f 0 n
-    ⨟ (λ x. (t, none ∷ some (vptr b o) ∷ some (vint w64 d) ∷ some (vint w64 n) ∷ none ∷ some (val sums.sum (f (x .c))) ∷ some (vint w64 (x .c)) ∷ []))
+    ⨟ (λ x. (
+      t,
+      none ∷ some (vptr b o) ∷ some (vint w64 d) ∷ some (vint w64 n) ∷ none
+          ∷ some (val sums.sum (f (x .c))) ∷ some (vint w64 (x .c)) ∷ [],
+    ))
     ⨟ start f 0 n (omega arith) first is-s ⨟ refl ⨟ (refl, (refl, (refl, (laid first, (refl, tt)))))
     ⨟ (λ x. let c : ℕ = x .c in
     (tt ⨟ (tt, tt) ⨟ apart ((λ yes. let h : x .c < n = ltb→lt (x .c) n yes in let is-c = count-is x h few in
