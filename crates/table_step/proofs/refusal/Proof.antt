@@ -1,7 +1,7 @@
 -- `table_step::refusal` meets its contract: 8 and 10 first, then the lines that look at a seat.
 -- Assumes nothing.
 use mathlib.Core.Path.{_≡_, refl, sym, ap, subst, _∙_}
-use Prim.Native.Nat.{ℕ, _<_}
+use Prim.Native.Nat.{ℕ, _<_, _^_}
 use native.Mathlib.Omega.{arith}
 use lib.Dec.{eqb}
 use mir.Syntax.{w32}
@@ -52,11 +52,11 @@ refusal-spec 𝓤 H 𝓜 𝓖 𝓡 =
     (tt, tt) ⨟ _ ⨟ counts-met ⨟ tt ⨟ (tt, tt) ⨟ refl ⨟ refl ⨟ λ is-n.
     _ ⨟ unplaced-met ⨟ (t .tray .counts, (e, tt)) ⨟ ((is-n, (is-e, tt)), tt) ⨟ refl ⨟ refl ⨟ λ is-c. tt ⨟ tt ⨟ (tt, tt)
     ⨟ apart ((λ yes. let same = unplaced-some t e need yes in
-    ((tt, record { fits = is-c .1 }) ⨟ _ ⨟ refl ⨟ (ap (vint w32) same, (refl, subst (λ (n : ℕ). n < _) same (is-c .1)), refl, tt)))
+    ((tt, record { fits = is-c .1 }) ⨟ _ ⨟ refl ⨟ (ap (vint w32) same, (refl, subst (λ (n : ℕ). n < 2 ^ 32) same (is-c .1)), refl, tt)))
     ⨟ (λ no. let there = placed t e need no in let same = unplaced-none t e need no in
     ((tt, tt) ⨟ _ ⨟ tray-met ⨟ tt ⨟ (tt, tt) ⨟ refl ⨟ refl ⨟ λ is-t.
     _ ⨟ desk-byte-met ⨟ (e, tt) ⨟ ((is-e, tt), there) ⨟ refl ⨟ refl ⨟ λ is-b. (tt, tt)
     ⨟ _ ⨟ desk-of-met ⨟ (e, tt) ⨟ ((is-e, tt), tt) ⨟ refl ⨟ refl ⨟ λ is-d.
     _ ⨟ seat-of-met ⨟ (e .desk, tt) ⨟ ((is-d, tt), there) ⨟ refl ⨟ refl ⨟ λ is-s.
     _ ⨟ seat-refusal-met ⨟ (t .tray, (e .desk, (seatOf t (e .desk), (e, tt)))) ⨟ ((is-t, (is-b, (is-s, (is-e, tt)))), (there, tray .cells-most)) ⨟ refl ⨟ refl
-    ⨟ λ is-r. _ ⨟ refl ⨟ (ap (vint w32) same, (refl, subst (λ (n : ℕ). n < _) same (is-r .1)), refl, tt)))))
+    ⨟ λ is-r. _ ⨟ refl ⨟ (ap (vint w32) same, (refl, subst (λ (n : ℕ). n < 2 ^ 32) same (is-r .1)), refl, tt)))))
