@@ -88,6 +88,9 @@ desk-byte = record { Ps = event ∷ []; R = number w8; pre = where-holds (λ a. 
 abbrev pub cell-of : PlainFn
 cell-of = record { Ps = event ∷ []; R = number w64; pre = always; res = λ a. a .0 .cell }
 
+abbrev pub new-word : PlainFn
+new-word = record { Ps = event ∷ []; R = number w32; pre = always; res = λ a. a .0 .word }
+
 abbrev pub is-kind : PlainFn
 is-kind = record { Ps = event ∷ number w32 ∷ []; R = boolean; pre = always; res = λ a. eqb (a .0 .kind) (a .1 .0) }
 

@@ -281,6 +281,12 @@ pub fn cell_of(e: Event) -> usize
     e.cell as usize
 }
 
+pub fn new_word(e: Event) -> u32
+    ensures { λ r. ⌜ r ≡ e .word ⌝ }
+{
+    e.word
+}
+
 pub fn is_kind(e: Event, kind: u32) -> bool
     ensures { λ r. ⌜ r ≡ eqb (e .kind) kind ⌝ }
 {

@@ -6,7 +6,7 @@ use Prim.Native.Nat.{ℕ, _+_, _-_, _≤_}
 use native.Mathlib.Omega.{arith}
 use lib.Bits.{bitOr}
 use lib.Dec.{eqb}
-use lib.ListN.{length, getD, drop}
+use lib.ListN.{length, drop}
 use lib.Seq.{getD-drop}
 use mir.Val.{boolByte}
 use borrow.Author.Tests.{eqb-true, eq-eqb}
@@ -80,10 +80,10 @@ joined-within d a b =
     zero e k h = sym (paired-at bitOr (a .n) (b .n) k) ∙ within-past d (joined a b) e k h
 
 -- ---- the test, in the words of clocks
-abbrev pub Fits : Sum → ℕ → Bool
-Fits s desks = eqb (s .w) 0 && (isWithin 0 (s .z) && isWithin desks (s .h))
+abbrev pub sumWithin : Sum → ℕ → Bool
+sumWithin s desks = eqb (s .w) 0 && (isWithin 0 (s .z) && isWithin desks (s .h))
 
-pub fits-is : (s : Sum) (desks : ℕ) → sumFits s desks ≡ Fits s desks
+pub fits-is : (s : Sum) (desks : ℕ) → sumFits s desks ≡ sumWithin s desks
 unfolding sumFits
 fits-is s desks =
     ap (_&&_ (eqb (s .w) 0))

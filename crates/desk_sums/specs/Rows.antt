@@ -8,15 +8,15 @@ use native.Mathlib.Omega.{arith}
 use lib.Dec.{ltb, leb}
 use lib.ListN.{length}
 use borrow.Author.Tests.{ltb-true, eqb-true, lt-ltb, le-ltb}
-use Rattle.theory_lists.specs.Test.{same-test, both-left, both-right, fails}
-use Rattle.theory_lists.specs.Turns.{turns, turns-next, between, between-none, between-next, allBelow, all-same, all-more, all-rows, turns-add, every-all}
+use Rattle.theory_lists.specs.Test.{both-left, both-right, fails}
+use Rattle.theory_lists.specs.Turns.{turns, turns-next, between, between-none, between-next, turns-add}
+use Rattle.theory_lists.specs.Turns.{allBelow, all-same, all-more, all-rows, every-all}
 use Rattle.desk.specs.declared.Cell.{Cell}
-use Rattle.desk.specs.declared.Counts.{Counts}
 use Rattle.desk.specs.declared.Place.{Place}
 use Rattle.desk.specs.declared.Record.{Record}
 use Rattle.desk.specs.declared.Seat.{Seat}
 use Rattle.desk.specs.declared.Tray.{Tray}
-use Rattle.desk.specs.Desk.{pastCell, cellAt, placeAt, keeperOf, isUsed, keepsAt, keptBy}
+use Rattle.desk.specs.Desk.{pastCell, cellAt, placeAt, keeperOf, keepsAt, keptBy}
 use Rattle.desk.specs.Sound.{traySound, cellSound, seatSound, cellsSound, isSound}
 use Rattle.desk.specs.SoundLaws.{TrayRule, tray-rule, keeper-desk, Used, is-used}
 use Rattle.desk_sums.specs.declared.Sum.{Sum}
@@ -35,9 +35,12 @@ pastSum cell n s c = between (λ u k. restOf u (cell k)) n s c
 abbrev pub rowSum : (ℕ → Place) → (ℕ → Cell) → ℕ → ℕ → Sum → Sum
 rowSum place cell desk n s = pastSum cell n (usedSum place cell desk s n) 32
 
--- desk k's cell c is entry k * 32 + c
+-- desk k's row of the entries: its cell c is entry k * 32 + c
+abbrev pub rowOf : (ℕ → Cell) → ℕ → ℕ → Cell
+rowOf entry k c = entry (k * 32 + c)
+
 unfoldable pub cellsSum : Tray → (ℕ → Cell) → ℕ → Sum
-cellsSum t entry d = turns (λ s k. rowSum (placeAt t) (λ c. entry (k * 32 + c)) k (usedBy (t .counts) k) s) noSum d
+cellsSum t entry d = turns (λ s k. rowSum (placeAt t) (rowOf entry k) k (usedBy (t .counts) k) s) noSum d
 
 unfoldable pub seatsSum : Tray → (ℕ → Seat) → ℕ → Sum
 seatsSum t seat d = turns (λ s k. addSeatOf s (t .counts) k (placeAt t (slotCell (seat k))) (seat k)) noSum d
@@ -66,9 +69,9 @@ module _ (t : Tray) (entry : ℕ → Cell) where
   unfolding cellsSum turns
   cells-none = refl
 
-  pub cells-next : (d : ℕ) → cellsSum t entry (d + 1) ≡ rowSum (placeAt t) (λ c. entry (d * 32 + c)) d (usedBy (t .counts) d) (cellsSum t entry d)
+  pub cells-next : (d : ℕ) → cellsSum t entry (d + 1) ≡ rowSum (placeAt t) (rowOf entry d) d (usedBy (t .counts) d) (cellsSum t entry d)
   unfolding cellsSum
-  cells-next d = turns-next (λ s k. rowSum (placeAt t) (λ c. entry (k * 32 + c)) k (usedBy (t .counts) k) s) noSum d
+  cells-next d = turns-next (λ s k. rowSum (placeAt t) (rowOf entry k) k (usedBy (t .counts) k) s) noSum d
 
 module _ (t : Tray) (seat : ℕ → Seat) where
   pub seats-none : seatsSum t seat 0 ≡ noSum
@@ -179,6 +182,10 @@ record-sound v long row = go (traySound t) (ltb desk desks) refl refl
     turn : (a b c : Bool) → (a && (b && c)) ≡ (c && b && a)
     turn a b c = and-comm a (b && c) ∙ ap (λ (x : Bool). x && a) (and-comm b c)
 
+    beside : TrayRule t → ltb desk desks ≡ true
+        → sumFits (addSeat noSum true (t .counts .cells) (keptBy (placeAt t (slotCell (v .seat))) desk) (v .seat)) desks ≡ seatSound t desk (v .seat)
+    beside r q = rw (q, none-fits desks) at (seat-adds t desk (v .seat) (r .cells-most) noSum)
+
     go : (a b : Bool) → traySound t ≡ a → ltb desk desks ≡ b
         → recordFits t desk (v .seat) (rowSum (placeAt t) (cellAt (v .row)) desk (rowCount (t .counts)) noSum) ≡ isSound v
     go false b p q = rw p
@@ -186,26 +193,24 @@ record-sound v long row = go (traySound t) (ltb desk desks) refl refl
     go true true p q =
         let r = tray-rule t p in
         let all : usedBy (t .counts) desk ≡ rowCount (t .counts) = rw q (omega (arith, r .cells-most)) in
-        let beside : sumFits (addSeat noSum true (t .counts .cells) (keptBy (placeAt t (slotCell (v .seat))) desk) (v .seat)) desks
-        ≡ seatSound t desk (v .seat) = rw (q, none-fits desks) at (seat-adds t desk (v .seat) (r .cells-most) noSum) in
-        rw (p, q, beside, rw all at (record-fits v r long row))
+        rw (p, q, beside r q, rw all at (record-fits v r long row))
         (turn (leb (v .seat .slot .kind) 2) (seatSound t desk (v .seat)) (cellsSound v))
 
 pub cells-fit : (t : Tray) (entry : ℕ → Cell) (d : ℕ) → TrayRule t → length (t .places) ≡ 32
     → sumFits (cellsSum t entry d) (t .counts .desks) ≡ allBelow (λ i. cellSound t (i / 32) (i % 32) (entry i)) (d * 32)
 unfolding cellsSum
 cells-fit t entry d r long =
-    turns-add (λ s. sumFits s (t .counts .desks)) (λ s k. rowSum (placeAt t) (λ c. entry (k * 32 + c)) k (usedBy (t .counts) k) s)
-    (λ k. allBelow (λ c. cellSound t k c (entry (k * 32 + c))) 32) noSum d (λ s k _. row-adds t r long (λ c. entry (k * 32 + c)) k s)
+    turns-add (λ s. sumFits s (t .counts .desks)) (λ s k. rowSum (placeAt t) (rowOf entry k) k (usedBy (t .counts) k) s)
+    (λ k. allBelow (λ c. cellSound t k c (rowOf entry k c)) 32) noSum d (λ s k _. row-adds t r long (rowOf entry k) k s)
     ∙ rw (none-fits (t .counts .desks))
-    (all-same (λ k. allBelow (λ c. cellSound t k c (entry (k * 32 + c))) 32) (λ k. allBelow (λ c. test (k * 32 + c)) 32) d
-    (λ k _. all-same (λ c. cellSound t k c (entry (k * 32 + c))) (λ c. test (k * 32 + c)) 32 (same k)))
+    (all-same (λ k. allBelow (λ c. cellSound t k c (rowOf entry k c)) 32) (λ k. allBelow (λ c. test (k * 32 + c)) 32) d
+    (λ k _. all-same (λ c. cellSound t k c (rowOf entry k c)) (λ c. test (k * 32 + c)) 32 (same k)))
     ∙ all-rows test d 32
   where
     test : ℕ → Bool
     test i = cellSound t (i / 32) (i % 32) (entry i)
 
-    same : (k c : ℕ) → c < 32 → cellSound t k c (entry (k * 32 + c)) ≡ test (k * 32 + c)
+    same : (k c : ℕ) → c < 32 → cellSound t k c (rowOf entry k c) ≡ test (k * 32 + c)
     same k c h =
         let desk : (k * 32 + c) / 32 ≡ k = omega arith in
         let place : (k * 32 + c) % 32 ≡ c = omega arith in

@@ -1,7 +1,6 @@
 -- What each cell and each seat adds to a running sum, and the test of the sum. `Laws` says that the test is soundness.
 -- Assumes nothing.
 use mathlib.Core.Bool.{Bool, true, false, not, _&&_, _||_, cond}
-use mathlib.Core.List.{List}
 use Prim.Native.Nat.{ℕ, _%_, min}
 use lib.Bits.{bitOr}
 use lib.Dec.{ltb, leb, eqb}

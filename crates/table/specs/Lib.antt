@@ -12,3 +12,4 @@ pub mod Sound
 pub mod SoundLaws
 pub mod Table
 pub mod Touch
+pub mod Turn

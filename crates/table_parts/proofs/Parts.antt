@@ -7,8 +7,10 @@ use Rattle.table.proofs.Table as T
 use Rattle.table.proofs.Table.Laws as T′
 use Rattle.walks.proofs.Access.{getter, getter-at, setter-at, clearer-at}
 use Rattle.walks.proofs.Lent.{LentFn}
-use Rattle.walks.proofs.Parts.{Part, Row, of, field-of}
-use Rattle.walks.proofs.Plain.{Plain, Form, form, struct}
+use Rattle.table.specs.declared.Table.{Table}
+use Rattle.table.specs.Rows.{Sized}
+use Rattle.walks.proofs.Parts.{Part, Row, of, field-of, long}
+use Rattle.walks.proofs.Plain.{Plain, Form, IsOf, form, struct}
 
 abbrev pub table-form : Form
 table-form = form T.struct T.propositions T′.the-laws T′.lowers T′.the-plain (λ d. refl) (λ v. tt)
@@ -56,3 +58,11 @@ put-cell = setter-at cells-in
 
 abbrev pub clear-cell : LentFn table
 clear-cell = clearer-at cells-in noCell
+
+-- ---- its arrays have their lengths
+pub sized : (t : Table) → IsOf table t → Sized t
+sized t is = record {
+  all-cells = long cell 256 (t .cells) (cells-in .part .get-is t is);
+  all-places = long spot 32 (t .tray .places) (places-in .part .get-is t is);
+  all-seats = long seat 8 (t .seats) (seats-in .part .get-is t is);
+}

@@ -29,6 +29,7 @@ use desk_acts::home;
 use desk_acts::is_kind;
 use desk_acts::is_lost;
 use desk_acts::keeper_of;
+use desk_acts::new_word;
 use desk_acts::own_reply;
 use desk_acts::raising;
 use desk_acts::refused;
@@ -89,7 +90,7 @@ fn own(t: &mut Table, d: usize, c: usize, e: Event) -> Reply
         put_seat(t, d, asking(s, d, e));
     }
     if change == 2 {
-        store(t, d, c, raising(s, d), e.word);
+        store(t, d, c, raising(s, d), new_word(e));
     }
     if change == 3 {
         clear_cell(t, at(d, c));

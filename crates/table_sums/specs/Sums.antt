@@ -2,7 +2,6 @@
 -- Assumes nothing.
 use mathlib.Core.Path.{_≡_, refl, sym, ap₂, _∙_}
 use mathlib.Core.Bool.{Bool, true, false, _&&_}
-use Prim.Native.Nat.{ℕ}
 use Rattle.desk.specs.Desk.{pastCell, pastSeat, cellAt}
 use Rattle.desk.specs.Sound.{traySound, seatSound}
 use Rattle.desk.specs.SoundLaws.{tray-rule}

@@ -42,11 +42,11 @@ two (x ⨟ y) = y
 -- there is no way on: code that is not covered, or a local that has no value yet
 pub data Stuck : Type 2 where
 
-abbrev ifKnown : Option Val → (Val → Type 2) → Type 2
+abbrev pub ifKnown : Option Val → (Val → Type 2) → Type 2
 ifKnown none K = Stuck
 ifKnown (Opt.some v) K = K v
 
-abbrev ifPointer : Val → (Val → Type 2) → Type 2
+abbrev pub ifPointer : Val → (Val → Type 2) → Type 2
 ifPointer (vptr b o) K = K (vptr b o)
 ifPointer vunit K = Stuck
 ifPointer (vbool y) K = Stuck
@@ -54,7 +54,7 @@ ifPointer (vint w n) K = Stuck
 ifPointer (vfloat f x) K = Stuck
 ifPointer (vstruct vs) K = Stuck
 
-abbrev ifBool : Val → (Bool → Type 2) → Type 2
+abbrev pub ifBool : Val → (Bool → Type 2) → Type 2
 ifBool (vbool y) K = K y
 ifBool vunit K = Stuck
 ifBool (vptr b o) K = Stuck
@@ -62,7 +62,7 @@ ifBool (vint w n) K = Stuck
 ifBool (vfloat f x) K = Stuck
 ifBool (vstruct vs) K = Stuck
 
-abbrev ifLocal : List Ty → ℕ → (Ty → Type 2) → Type 2
+abbrev pub ifLocal : List Ty → ℕ → (Ty → Type 2) → Type 2
 ifLocal [] i K = Stuck
 ifLocal (τ ∷ τs) zero K = K τ
 ifLocal (τ ∷ τs) (suc i) K = ifLocal τs i K
@@ -104,28 +104,28 @@ module _ {M : Type 1} {𝓤 : URA M} {H : Heap 𝓤} {A : Atoms 𝓤} (W : Given
     abbrev pub State : Type 0
     State = D × Locals
 
-    abbrev rest : Blocks τs → Locals → List (Item 𝓤)
+    abbrev pub rest : Blocks τs → Locals → List (Item 𝓤)
     rest bs ls = cells W τs bs ls ++ (dies W τs bs ++ fr)
 
     -- the memory of a state
     abbrev pub Context : Blocks τs → State → List (Item 𝓤)
     Context bs s = item (s .0) ∷ rest bs (s .1)
 
-    abbrev envOf : Blocks τs → Env 𝓤 H
+    abbrev pub envOf : Blocks τs → Env 𝓤 H
     envOf bs = env W τs bs
 
     -- ---- what operands and right sides need
     -- a place of more than a local is given by hand: its value, and how it is read
-    abbrev HasOpd : Locals → Operand → Val → Type 2
+    abbrev pub HasOpd : Locals → Operand → Val → Type 2
     HasOpd ls x v = (bs : Blocks τs) (I : Item 𝓤) → Opd (Go {0}) W (I ∷ rest bs ls) (envOf bs) x v
 
-    abbrev HasOpds : Locals → List Operand → List Val → Type 2
+    abbrev pub HasOpds : Locals → List Operand → List Val → Type 2
     HasOpds ls xs vs = (bs : Blocks τs) (I : Item 𝓤) → Opds (Go {0}) W (I ∷ rest bs ls) (envOf bs) xs vs
 
-    abbrev HasRv : State → RValue → Val → Type 2
+    abbrev pub HasRv : State → RValue → Val → Type 2
     HasRv s rv v = (bs : Blocks τs) → Rv (Go {0}) W (Context bs s) (envOf bs) rv v
 
-    abbrev OpdOk : Locals → Operand → (Val → Type 2) → Type 2
+    abbrev pub OpdOk : Locals → Operand → (Val → Type 2) → Type 2
     OpdOk ls (copy (place i [])) K = ifKnown (valAt τs ls i) K
     OpdOk ls (copy (place i (x ∷ st))) K = Then Val (λ v. Then (HasOpd ls (copy (place i (x ∷ st))) v) (λ _. K v))
     OpdOk ls (int w n) K = Then (T (ltb n (2 ^ bits w))) (λ _. K (vint w n))
@@ -137,11 +137,11 @@ module _ {M : Type 1} {𝓤 : URA M} {H : Heap 𝓤} {A : Atoms 𝓤} (W : Given
     OpdOk ls opdUnit K = K vunit
     OpdOk ls (ptrConst n) K = Stuck
 
-    abbrev OpdsOk : Locals → List Operand → (List Val → Type 2) → Type 2
+    abbrev pub OpdsOk : Locals → List Operand → (List Val → Type 2) → Type 2
     OpdsOk ls [] K = K []
     OpdsOk ls (x ∷ xs) K = OpdOk ls x (λ v. OpdsOk ls xs (λ vs. K (v ∷ vs)))
 
-    abbrev RvOk : State → RValue → (Val → Type 2) → Type 2
+    abbrev pub RvOk : State → RValue → (Val → Type 2) → Type 2
     RvOk s (rvOpd (copy (place i []))) K = ifKnown (valAt τs (s .1) i) K
     RvOk s (rvOpd (copy (place i (x ∷ st)))) K = Then Val (λ v. Then (HasRv s (rvOpd (copy (place i (x ∷ st)))) v) (λ _. K v))
     RvOk s (rvOpd (int w n)) K = OpdOk (s .1) (int w n) K
@@ -164,7 +164,7 @@ module _ {M : Type 1} {𝓤 : URA M} {H : Heap 𝓤} {A : Atoms 𝓤} (W : Given
 
     -- ---- what statements need
     -- a store behind the reference is given by hand: the value there after it, and how it is written
-    abbrev Stores : State → Place → Val → D → Type 2
+    abbrev pub Stores : State → Place → Val → D → Type 2
     Stores s p v t =
         (bs : Blocks τs) → (sp : Spot 𝓤 H) × Finds (Go {0}) W (Context bs s) (envOf bs) p sp
         × Writes (Go {0}) W (Context bs s) (sp .0) (sp .1) (sp .2) v (Context bs (t, s .1))
@@ -173,30 +173,30 @@ module _ {M : Type 1} {𝓤 : URA M} {H : Heap 𝓤} {A : Atoms 𝓤} (W : Given
     abbrev pub Ends : Type 3
     Ends = Out → State → Type 2
 
-    abbrev thenOk : (State → Type 2) → Ends → Ends
+    abbrev pub thenOk : (State → Type 2) → Ends → Ends
     thenOk go Q next s = go s
     thenOk go Q (exits n) s = Q (exits n) s
     thenOk go Q returns s = Q returns s
 
-    abbrev blockOk : Ends → Ends
+    abbrev pub blockOk : Ends → Ends
     blockOk Q next s = Q next s
     blockOk Q (exits zero) s = Q next s
     blockOk Q (exits (suc n)) s = Q (exits n) s
     blockOk Q returns s = Q returns s
 
-    abbrev turnOk : (State → Type 2) → Ends → Ends
+    abbrev pub turnOk : (State → Type 2) → Ends → Ends
     turnOk again Q next s = again s
     turnOk again Q (exits zero) s = again s
     turnOk again Q (exits (suc n)) s = Q (exits n) s
     turnOk again Q returns s = Q returns s
 
-    abbrev joinOk : {Y : Type 0} → (Y → State) → Ends → Ends
+    abbrev pub joinOk : {Y : Type 0} → (Y → State) → Ends → Ends
     joinOk {Y} J Q next s = (y : Y) × (s .0 ≡ J y .0) × Weaker (s .1) (J y .1) × Unit {2}
     joinOk J Q (exits n) s = Q (exits n) s
     joinOk J Q returns s = Q returns s
 
     -- the states at a loop's head are `at x`, for x in an order that every turn goes down in
-    abbrev Again : {X : Type 0} → (X → X → Type 0) → (X → State) → X → State → Type 2
+    abbrev pub Again : {X : Type 0} → (X → X → Type 0) → (X → State) → X → State → Type 2
     Again {X} ≺ at x s = (x′ : X) × ≺ x′ x × (s .0 ≡ at x′ .0) × Weaker (s .1) (at x′ .1) × Unit {2}
 
     abbrev pub Ok : Body → Ends → State → Type 2

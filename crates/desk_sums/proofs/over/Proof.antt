@@ -57,7 +57,8 @@ element-copy-out-t59 c = search needs
 returns : tie.Need-returns
 unfolding listed
 returns c =
-    let start = c .before .before .before .before .before .before .before .before .before .before .before .before .before .before .before .before .args in
+    let half = c .before .before .before .before .before .before .before .before in
+    let start = half .before .before .before .before .before .before .before .before .args in
     joined-listed (start .t1) (start .t2) (search needs) (search needs)
 
 pub over-spec : {M : Type 1} → statement M

@@ -34,9 +34,10 @@ sum-fits-requires-2 c κs = search needs
 returns-2 : tie.Need-returns-2
 unfolding recordFits
 returns-2 c =
+    let at-if = c .before .before .before .before .before .before .before .before .before .before .before in
     rw (
-      ← c .before .before .before .before .before .before .before .before .before .before .before .before .tray-sound .ensures,
-      not-false (c .before .before .before .before .before .before .before .before .before .before .before .before .tray-sound .result) (c .before .before .before .before .before .before .before .before .before .before .before .if1 .left),
+      ← at-if .before .tray-sound .ensures,
+      not-false (at-if .before .tray-sound .result) (at-if .if1 .left),
       c .sum-fits2 .ensures,
       c .before .sum-fits .ensures,
       c .before .before .before .before .add-seat .ensures,

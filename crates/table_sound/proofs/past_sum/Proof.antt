@@ -50,7 +50,7 @@ past-sum-spec 𝓤 H 𝓜 𝓖 𝓡 =
     ⨟ (λ x. (t, none ∷ some (vptr b o) ∷ some (vint w64 d) ∷ none ∷ none ∷ some (val adds.sum (f (x .c))) ∷ some (vint w64 (x .c)) ∷ []))
     ⨟ start f n 32 (need .1) first is-s ⨟ refl ⨟ (refl, (refl, (laid first, (refl, tt))))
     ⨟ (λ x. let c : ℕ = x .c in
-    (tt ⨟ tt ⨟ (tt, tt) ⨟ apart ((λ yes. let h : x .c < 32 = ltb→lt (x .c) 32 yes in let is-c = count-is x h (omega arith) in
+    (tt ⨟ tt ⨟ (tt, tt) ⨟ apart ((λ yes. let low = ltb→lt (x .c) _ yes in let h : x .c < 32 = omega (arith, low) in let is-c = count-is x h (omega arith) in
     ((tt, tt) ⨟ _ ⨟ at-met ⨟ (d, (c, tt)) ⨟ ((is-d, (is-c, tt)), (need .0, h)) ⨟ refl ⨟ refl ⨟ λ is-i.
     _ ⨟ cell-at-met ⨟ (d * 32 + c, tt) ⨟ ((is-i, tt), omega (arith, need .0, h)) ⨟ refl ⨟ refl ⨟ λ is-x.
     _ ⨟ rest-met ⨟ (f c, (cell c, tt)) ⨟ ((x .is, (is-x, tt)), tt) ⨟ refl ⨟ refl ⨟ λ is-u.
