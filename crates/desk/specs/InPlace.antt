@@ -7,15 +7,15 @@ use Prim.Native.Nat.{ℕ, _+_, _≤_, _<_}
 use native.Mathlib.Nat.{add-zero, zero-add}
 use native.Mathlib.Numerals.{add-one}
 use native.Mathlib.Omega.{arith}
-use borrow.Author.Tests.{eq-eqb, ne-eqb, lt-ltb}
-use lib.Dec.{eqb}
+use borrow.Author.Tests.{eqb-true, eqb-false, eq-eqb, ne-eqb, lt-ltb}
+use lib.Dec.{T, eqb}
 use lib.ListN.{length, set, length-set}
 use lib.Seq.{getD-set-same}
 use Rattle.clock.specs.declared.Clock.{Clock}
 use Rattle.theory_lists.specs.Each.{length-mapAt}
 use Rattle.theory_lists.specs.Swept.{swept, sweptCount, count-small, swept-all, swept-all-count}
 use Rattle.theory_lists.specs.Test.{both-left, fails}
-use Rattle.theory_refusals.specs.Refusals.{unless}
+use Rattle.theory_refusals.specs.Refusals.{unless, unless-refused, unless-done}
 use Rattle.desk.specs.declared.Answer.{Answer}
 use Rattle.desk.specs.declared.Cell.{Cell}
 use Rattle.desk.specs.declared.Event.{Event}
@@ -27,11 +27,11 @@ use Rattle.desk.specs.Desk.{Word, noCell, pastCell, cellAt, placeAt, kep
 use Rattle.desk.specs.Kept.{holds-row, no-cell-rule}
 use Rattle.desk.specs.Parts.{changeOf, askedFor, askingSeat, raisedSeat, readReply, writeReply, ownReply, tookSeat, homeSeat, broughtCell, losesIf}
 use Rattle.desk.specs.Parts.{eventCode, serveCode, bringCode, inTray, requestFits, answerFits}
-use Rattle.desk.specs.Parts.{askedMessage, ownAnswer, servedAnswer, broughtAnswer}
+use Rattle.desk.specs.Parts.{refusedAnswer, askedMessage, ownAnswer, servedAnswer, broughtAnswer}
 use Rattle.desk.specs.RuleLaws.{Allowed, allowed, Served, served, Brought, brought, own-is, event-place, serve-place, bring-place}
-use Rattle.desk.specs.Rules.{withSeat, withRow, holds, answerOf, readRule, writeRule, dropRule, eventLines, eventRefusal, eventDone}
-use Rattle.desk.specs.Rules.{ofTray, fitsServe, serveLines, serveRefusal, readServed, takes, writeServed, serveDone}
-use Rattle.desk.specs.Rules.{fitsBring, bringLines, bringRefusal, brings, bringDone}
+use Rattle.desk.specs.Rules.{withSeat, withRow, holds, answerOf, refused, readRule, writeRule, dropRule, eventLines, eventRefusal, eventDone, eventRule}
+use Rattle.desk.specs.Rules.{ofTray, fitsServe, serveLines, serveRefusal, readServed, takes, writeServed, serveDone, serveRule}
+use Rattle.desk.specs.Rules.{fitsBring, bringLines, bringRefusal, brings, bringDone, bringRule}
 use Rattle.desk.specs.Sound.{isSound}
 use Rattle.desk.specs.SoundLaws.{RowRule, SoundRule, sound-rule}
 
@@ -145,7 +145,7 @@ unfoldable pub ownIn : Record → Event → Record
 ownIn v e = cond (eqb (changeIn v e) 3) (holds (storedIn v e) (e .cell) noCell) (storedIn v e)
 
 unfoldable pub answerIn : Record → Event → Answer
-answerIn v e = ownAnswer (keptHere v e) (namedBy v e) e (v .tray .counts) (v .desk) (ownIn v e .seat .slot)
+answerIn v e = ownAnswer (keptHere v e) (namedBy v e) e (ownIn v e .tray .counts) (v .desk) (ownIn v e .seat .slot)
 
 module _ (v : Record) (e : Event) (none : eventRefusal v e ≡ 0) where
   abbrev a : Allowed v e
@@ -265,3 +265,38 @@ module _ (v : Record) (long : length (v .row) ≡ 32) (m : Message) (none : brin
         loss-is (without v m) bare-long (rule .tray-is .cells-most) bare-row (m .clock),
       )
       (refl, refl)
+
+-- ---- a step by the code that was found for it: it is refused, or it is done
+pub record Turns (v : Record) (code : ℕ) (done rule : Step) : Type 0 where
+  pub refuses : T (not (eqb code 0)) → (refusedAnswer code ≡ answerOf rule) × (v ≡ rule .after)
+  pub none : T (not (not (eqb code 0))) → code ≡ 0
+  pub does : T (not (not (eqb code 0))) → (answerOf done ≡ answerOf rule) × (done .after ≡ rule .after)
+
+turns : (v : Record) (code : ℕ) (done : Step) → Turns v code done (unless code (refused v) done)
+turns v code done = go (eqb code 0) refl
+  where
+    go : (b : Bool) → eqb code 0 ≡ b → Turns v code done (unless code (refused v) done)
+    go true e =
+        record {
+          refuses = λ h. absurd (rw e at h);
+          none = λ _. eqb-true code 0 e;
+          does = λ _. rw (unless-done code (refused v) done (eqb-true code 0 e)) (refl, refl);
+        }
+    go false e =
+        record {
+          refuses = λ _. rw (unless-refused code (refused v) done (eqb-false code 0 e)) (refl, refl);
+          none = λ h. absurd (rw e at h);
+          does = λ h. absurd (rw e at h);
+        }
+
+pub event-turns : (v : Record) (e : Event) → Turns v (eventCode (isSound v) (v .tray) (v .desk) (v .seat) e) (eventDone v e) (eventRule v e)
+unfolding eventCode eventRefusal eventLines eventRule
+event-turns v e = turns v (eventRefusal v e) (eventDone v e)
+
+pub serve-turns : (v : Record) (m : Message) → Turns v (serveCode (isSound v) (v .tray) (v .desk) m) (serveDone v m) (serveRule v m)
+unfolding serveCode serveRefusal serveLines requestFits fitsServe inTray ofTray serveRule
+serve-turns v m = turns v (serveRefusal v m) (serveDone v m)
+
+pub bring-turns : (v : Record) (m : Message) → Turns v (bringCode (isSound v) (v .tray) (v .desk) (v .seat) m) (bringDone v m) (bringRule v m)
+unfolding bringCode bringRefusal bringLines answerFits fitsBring inTray ofTray bringRule
+bring-turns v m = turns v (bringRefusal v m) (bringDone v m)

@@ -133,7 +133,10 @@ keeps = record { Ps = spot ∷ number w64 ∷ []; R = boolean; pre = always; res
 abbrev pub seat-refusal : PlainFn
 seat-refusal = record { Ps = tray ∷ number w8 ∷ seat ∷ event ∷ []; R = number w32; pre = where-holds (λ a. (a .1 .0 < 8) × (a .0 .counts .cells ≤ 32)); res = λ a. firstOf (seatLines (a .0) (a .1 .0) (a .1 .1 .0) (a .1 .1 .1 .0)) }
 
--- ---- of a message, and answers
+-- ---- of a record's desk and of a message, and answers
+abbrev pub desk-index : PlainFn
+desk-index = record { Ps = number w8 ∷ []; R = number w64; pre = always; res = λ a. a .0 }
+
 abbrev of-message : (R : Plain) → (Args (message ∷ []) → Of R) → PlainFn
 of-message R res = record { Ps = message ∷ []; R = R; pre = always; res = res }
 

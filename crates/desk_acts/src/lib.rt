@@ -386,7 +386,13 @@ pub fn unplaced(n: Counts, e: Event) -> u32
     0
 }
 
-// ---- what a walk asks of a message
+// ---- what a walk asks of a record's desk, and of a message
+pub fn desk_index(desk: u8) -> usize
+    ensures { λ r. ⌜ r ≡ desk ⌝ }
+{
+    desk as usize
+}
+
 pub fn named_cell(m: Message) -> usize
     ensures { λ r. ⌜ r ≡ m .cell ⌝ }
 {

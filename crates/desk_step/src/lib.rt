@@ -23,9 +23,11 @@ use desk_acts::brought_by;
 use desk_acts::cell_of;
 use desk_acts::cells_of;
 use desk_acts::change_of;
+use desk_acts::desk_index;
 use desk_acts::home;
 use desk_acts::is_lost;
 use desk_acts::named_cell;
+use desk_acts::new_word;
 use desk_acts::own_answer;
 use desk_acts::raising;
 use desk_acts::refused_answer;
@@ -88,7 +90,7 @@ fn sound(v: &mut Record) -> bool
 {
     let desk = own_desk(v);
     let n = row_count(own_counts(v));
-    let used = own_used(v, desk as usize, n);
+    let used = own_used(v, desk_index(desk), n);
     let row = own_past(v, n, used);
     record_fits(own_tray(v), desk, own_seat(v), row)
 }
@@ -98,7 +100,7 @@ fn lose(v: &mut Record, learnt: Clock) -> u32
     requires { ⌜ now v .tray .counts .cells ≤ 32 ⌝ }
     ensures { λ r. ⌜ (r ≡ lossIn (now (v .entry)) learnt) × (now (v .exit) ≡ lostIn (now (v .entry)) learnt) ⌝ }
 {
-    let d = own_desk(v) as usize;
+    let d = desk_index(own_desk(v));
     let n = cells_of(own_counts(v));
     let mut lost: u32 = 0;
     let mut c: usize = 0;
@@ -127,7 +129,7 @@ fn own(v: &mut Record, e: Event) -> Answer
     ensures { λ r. ⌜ (r ≡ answerOf (eventDone (now (v .entry)) e)) × (now (v .exit) ≡ eventDone (now (v .entry)) e .after) ⌝ }
 {
     let desk = own_desk(v);
-    let d = desk as usize;
+    let d = desk_index(desk);
     let c = cell_of(e);
     let s = own_seat(v);
     let x = own_cell(v, c);
@@ -137,7 +139,7 @@ fn own(v: &mut Record, e: Event) -> Answer
         put_own_seat(v, asking(s, d, e));
     }
     if change == 2 {
-        store(v, c, raising(s, d), e.word);
+        store(v, c, raising(s, d), new_word(e));
     }
     if change == 3 {
         clear_own(v, c);
