@@ -1,4 +1,4 @@
-// The library for Rust and C. A lent record or table is loaded, goes through a step by value, and is stored.
+// The library for Rust and C. A lent record is stepped where it lies; a lent table is loaded, goes through an event by value, and is stored.
 ghost use mathlib.Core.Path.{_≡_};
 ghost use Rattle.desk.specs.Rules.{answerOf, eventRule, serveRule, bringRule};
 ghost use Rattle.desk.specs.Start.{startRule};
@@ -30,12 +30,7 @@ pub extern "C" fn cwmorlais_desk_start(plan: Plan, desk: u32) -> Started
 pub extern "C" fn cwmorlais_desk_event(v: &mut Record, e: Event) -> Answer
     ensures { λ r. ⌜ (r ≡ answerOf (eventRule (now (v .entry)) e)) × (now (v .exit) ≡ eventRule (now (v .entry)) e .after) ⌝ }
 {
-    let step = desk_event::event(*v, e);
-    *v = step.after;
-    Answer {
-        reply: step.reply,
-        message: step.message,
-    }
+    desk_step::event(v, e)
 }
 
 // A request came for a cell that this desk keeps. With code 0 the message is the answer, for the desk that asked.
@@ -43,12 +38,7 @@ pub extern "C" fn cwmorlais_desk_event(v: &mut Record, e: Event) -> Answer
 pub extern "C" fn cwmorlais_desk_serve(v: &mut Record, m: Message) -> Answer
     ensures { λ r. ⌜ (r ≡ answerOf (serveRule (now (v .entry)) m)) × (now (v .exit) ≡ serveRule (now (v .entry)) m .after) ⌝ }
 {
-    let step = desk_serve::serve(*v, m);
-    *v = step.after;
-    Answer {
-        reply: step.reply,
-        message: step.message,
-    }
+    desk_step::serve(v, m)
 }
 
 // The answer came to what this desk asked.
@@ -56,12 +46,7 @@ pub extern "C" fn cwmorlais_desk_serve(v: &mut Record, m: Message) -> Answer
 pub extern "C" fn cwmorlais_desk_bring(v: &mut Record, m: Message) -> Answer
     ensures { λ r. ⌜ (r ≡ answerOf (bringRule (now (v .entry)) m)) × (now (v .exit) ≡ bringRule (now (v .entry)) m .after) ⌝ }
 {
-    let step = desk_bring::bring(*v, m);
-    *v = step.after;
-    Answer {
-        reply: step.reply,
-        message: step.message,
-    }
+    desk_step::bring(v, m)
 }
 
 // The message whose frame the bytes start with.
