@@ -2,7 +2,7 @@
 -- makes a sum.
 -- Assumes nothing.
 use mathlib.Core.Path.{_≡_, refl, sym, ap, subst}
-use mathlib.Core.Bool.{Bool, true, false, not}
+use mathlib.Core.Bool.{not}
 use mathlib.Core.Option.{some}
 use mathlib.Core.List.{List, [], _∷_}
 use mathlib.Core.WellFounded.{WellFounded, InvImage·wf}
@@ -13,7 +13,7 @@ use lib.WfN.{Nat·lt-wfRel}
 use mir.Syntax.{w64}
 use mir.Val.{Fits}
 use Rattle.desk.specs.declared.Counts.{Counts}
-use Rattle.desk.specs.Desk.{cellAt, placeAt, keptBy}
+use Rattle.desk.specs.Desk.{cellAt, placeAt}
 use Rattle.desk.specs.Sound.{traySound}
 use Rattle.desk_parts.proofs.Parts.{cell, spot, counts, tray, seat}
 use Rattle.desk_sums.proofs.Sum as S
@@ -22,13 +22,11 @@ use Rattle.desk_sums.specs.declared.Sum.{Sum}
 use Rattle.desk_sums.specs.Rows.{usedSum, pastSum, cellsSum, seatsSum}
 use Rattle.desk_sums.specs.Sums.{noSum, restOf, addKept, addSeatOf, slotCell, usedBy, sumFits}
 use Rattle.table.specs.declared.Table.{Table}
-use Rattle.table.specs.Rows.{Sized}
 use Rattle.table.specs.Sound.{tableSound}
 use Rattle.table.specs.Table.{seatOf}
-use Rattle.table_parts.proofs.Parts.{table, cells-in, places-in, seats-in}
+use Rattle.table_parts.proofs.Parts.{table}
 use Rattle.theory_lists.specs.Test.{whichever}
 use Rattle.walks.proofs.Lent.{LentFn, PlainFn, Pre, always, where-holds, gives}
-use Rattle.walks.proofs.Parts.{long}
 use Rattle.walks.proofs.Plain.{Plain, Of, val, IsOf, Args, Form, form, number, boolean, struct}
 
 abbrev pub sum-form : Form
@@ -61,44 +59,16 @@ seats-sum = finds [] sum always (λ t a. seatsSum (t .tray) (seatOf t) 8)
 abbrev pub sound : LentFn table
 sound = finds [] boolean always (λ t a. tableSound t)
 
--- ---- what is known of a table that lies in memory, and of what a desk uses of it
-pub sized : (t : Table) → IsOf table t → Sized t
-sized t is =
-    record {
-      all-cells = long cell 256 (t .cells) (cells-in .part .get-is t is);
-      all-places = long spot 32 (t .tray .places) (places-in .part .get-is t is);
-      all-seats = long seat 8 (t .seats) (seats-in .part .get-is t is);
-    }
-
+-- ---- what a desk uses of a table
 pub used-few : (n : Counts) (d : ℕ) → n .cells ≤ 32 → usedBy n d ≤ 32
 used-few n d few = whichever (λ k. k ≤ 32) (ltb d (n .desks)) (n .cells) 0 few (omega arith)
-
--- ---- the arms of `if !b`
-pub fails : (b : Bool) → T (not b) → b ≡ false
-fails true h = absurd h
-fails false h = refl
-
-pub holds : (b : Bool) → T (not (not b)) → b ≡ true
-holds true h = refl
-holds false h = absurd h
 
 -- ---- by value
 abbrev value : (Ps : List Plain) (R : Plain) → (Args Ps → Of R) → PlainFn
 value Ps R res = record { Ps = Ps; R = R; pre = always; res = res }
 
-abbrev pub at : PlainFn
-at = record {
-  Ps = number w64 ∷ number w64 ∷ [];
-  R = number w64;
-  pre = where-holds (λ a. (a .0 < 8) × (a .1 .0 < 32));
-  res = λ a. a .0 * 32 + a .1 .0;
-}
-
 abbrev pub no-sum : PlainFn
 no-sum = value [] sum (λ a. noSum)
-
-abbrev pub keeps : PlainFn
-keeps = value (spot ∷ number w64 ∷ []) boolean (λ a. keptBy (a .0) (a .1 .0))
 
 abbrev pub add-kept : PlainFn
 add-kept = value (sum ∷ boolean ∷ cell ∷ []) sum (λ a. addKept (a .0) (a .1 .0) (a .1 .1 .0))

@@ -19,3 +19,7 @@ is-true false h = absurd h
 pub is-false : (b : Bool) → T (not b) → b ≡ false
 is-false true h = absurd h
 is-false false h = refl
+
+pub is-not-false : (b : Bool) → T (not (not b)) → b ≡ true
+is-not-false true h = refl
+is-not-false false h = absurd h

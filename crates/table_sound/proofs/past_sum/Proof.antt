@@ -10,6 +10,7 @@ use mir.Syntax.{w64}
 use mir.Val.{vint, vptr}
 use Rattle.desk.specs.declared.Cell.{Cell}
 use Rattle.desk.specs.Desk.{cellAt}
+use Rattle.desk_acts.proofs.Acts as acts
 use Rattle.desk_acts.proofs.at.Met as at-thm
 use Rattle.desk_acts.proofs.at.Symbol as at
 use Rattle.desk_sums.proofs.rest.Met as rest-thm
@@ -36,7 +37,7 @@ past-sum-spec 𝓤 H 𝓜 𝓖 𝓡 =
     refl (λ κ q b o γ t a is-a is need.
     let lends = lent 𝓤 H 𝓜 𝓖 𝓡 code.env parts.table in
     let values = valued 𝓤 H 𝓜 𝓖 𝓡 code.env parts.table in
-    let at-met = values sums.at at.name at.routine code.calls-desk-acts·at (at-thm.met 𝓤 H 𝓜 𝓖 𝓡) κ q b o γ in
+    let at-met = values acts.at at.name at.routine code.calls-desk-acts·at (at-thm.met 𝓤 H 𝓜 𝓖 𝓡) κ q b o γ in
     let cell-at-met = lends parts.cell-at cell-at.name cell-at.routine code.calls-table-parts·cell-at (cell-at-thm.met 𝓤 H 𝓜 𝓖 𝓡) κ q b o γ in
     let rest-met = values sums.rest rest.name rest.routine code.calls-desk-sums·rest (rest-thm.met 𝓤 H 𝓜 𝓖 𝓡) κ q b o γ in
     let typed = has-type 𝓤 H (𝓖 .A) (W 𝓤 H 𝓜 𝓖 𝓡 code.env) sums.sum in

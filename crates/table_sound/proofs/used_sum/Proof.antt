@@ -10,6 +10,7 @@ use mir.Syntax.{w64}
 use mir.Val.{vint, vptr}
 use Rattle.desk.specs.declared.Cell.{Cell}
 use Rattle.desk.specs.Desk.{cellAt, placeAt, keptBy}
+use Rattle.desk_acts.proofs.Acts as acts
 use Rattle.desk_acts.proofs.at.Met as at-thm
 use Rattle.desk_acts.proofs.at.Symbol as at
 use Rattle.desk_sums.proofs.add_kept.Met as add-kept-thm
@@ -41,8 +42,8 @@ used-sum-spec 𝓤 H 𝓜 𝓖 𝓡 =
     let lends = lent 𝓤 H 𝓜 𝓖 𝓡 code.env parts.table in
     let values = valued 𝓤 H 𝓜 𝓖 𝓡 code.env parts.table in
     let place-met = lends parts.place place.name place.routine code.calls-table-parts·place (place-thm.met 𝓤 H 𝓜 𝓖 𝓡) κ q b o γ in
-    let keeps-met = values sums.keeps keeps.name keeps.routine code.calls-desk-sums·keeps (keeps-thm.met 𝓤 H 𝓜 𝓖 𝓡) κ q b o γ in
-    let at-met = values sums.at at.name at.routine code.calls-desk-acts·at (at-thm.met 𝓤 H 𝓜 𝓖 𝓡) κ q b o γ in
+    let keeps-met = values acts.keeps keeps.name keeps.routine code.calls-desk-sums·keeps (keeps-thm.met 𝓤 H 𝓜 𝓖 𝓡) κ q b o γ in
+    let at-met = values acts.at at.name at.routine code.calls-desk-acts·at (at-thm.met 𝓤 H 𝓜 𝓖 𝓡) κ q b o γ in
     let cell-met = lends parts.cell-at cell-at.name cell-at.routine code.calls-table-parts·cell-at (cell-at-thm.met 𝓤 H 𝓜 𝓖 𝓡) κ q b o γ in
     let add-met = values sums.add-kept add-kept.name add-kept.routine code.calls-desk-sums·add-kept (add-kept-thm.met 𝓤 H 𝓜 𝓖 𝓡) κ q b o γ in
     let typed = has-type 𝓤 H (𝓖 .A) (W 𝓤 H 𝓜 𝓖 𝓡 code.env) sums.sum in
