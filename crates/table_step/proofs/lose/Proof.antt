@@ -68,8 +68,11 @@ lose-spec 𝓤 H 𝓜 𝓖 𝓡 =
     _ ⨟ cells-of-met ⨟ (t .tray .counts, tt) ⨟ ((is-both, tt), tt) ⨟ refl ⨟ refl ⨟ λ is-n.
     tt ⨟ (tt, record { fits = lit< tt }) ⨟ tt ⨟ (tt, record { fits = lit< tt })
     ⨟ Count n ⨟ (λ x y. left n x < left n y) ⨟ InvImage·wf (left n) (Nat·lt-wfRel .wf)
-    ⨟ (λ x. (lostTo t d l (x .0), none ∷ some (vptr b o) ∷ some (vint w64 d) ∷ some (val acts.clock l) ∷ some (vint w64 n)
-    ∷ some (vint w32 (lossTo t d l (x .0))) ∷ some (vint w64 (x .0)) ∷ []))
+    ⨟ (λ x. (
+      lostTo t d l (x .0),
+      none ∷ some (vptr b o) ∷ some (vint w64 d) ∷ some (val acts.clock l) ∷ some (vint w64 n)
+          ∷ some (vint w32 (lossTo t d l (x .0))) ∷ some (vint w64 (x .0)) ∷ [],
+    ))
     ⨟ (0, zero-le) ⨟ sym (lost-none t d l) ⨟ (refl, (refl, (refl, (refl, (ap (λ (m : ℕ). some (vint w32 m)) (sym (loss-none t d l)), (refl, tt))))))
     ⨟ (λ x. let c : ℕ = x .0 in let i : ℕ = d * 32 + x .0 in
     (tt ⨟ (tt, tt) ⨟ apart ((λ yes. let below : x .0 < n = ltb→lt (x .0) n yes in let small : x .0 < 32 = omega (arith, below, need .1) in
@@ -79,8 +82,11 @@ lose-spec 𝓤 H 𝓜 𝓖 𝓡 =
     ⨟ _ ⨟ at-met ⨟ (d, (c, tt)) ⨟ ((is-d, ((refl, omega (arith, small)), tt)), (need .0, small)) ⨟ refl ⨟ refl ⨟ λ is-i.
     _ ⨟ cell-at-met ⨟ (i, tt) ⨟ ((is-i, tt), omega (arith, need .0, small)) ⨟ refl ⨟ refl ⨟ λ is-y.
     _ ⨟ is-lost-met ⨟ (keptBy (placeAt (t .tray) c) d, (l, (y, tt))) ⨟ ((is-k, (is-l, (is-y, tt))), tt) ⨟ refl ⨟ refl ⨟ λ is-b.
-    joined (Unit {0} ⨟ (λ _. (lostTo t d l (c + 1), none ∷ some (vptr b o) ∷ some (vint w64 d) ∷ some (val acts.clock l) ∷ some (vint w64 n)
-    ∷ some (vint w32 (lossTo t d l (c + 1))) ∷ some (vint w64 c) ∷ []))
+    joined (Unit {0} ⨟ (λ _. (
+      lostTo t d l (c + 1),
+      none ∷ some (vptr b o) ∷ some (vint w64 d) ∷ some (val acts.clock l) ∷ some (vint w64 n)
+          ∷ some (vint w32 (lossTo t d l (c + 1))) ∷ some (vint w64 c) ∷ [],
+    ))
     ⨟ (λ lost. let e = is-true test lost in
     ((tt, tt) ⨟ _ ⨟ at-met ⨟ (d, (c, tt)) ⨟ ((is-d, ((refl, omega (arith, small)), tt)), (need .0, small)) ⨟ refl ⨟ refl ⨟ λ is-j.
     _ ⨟ clear-cell-met ⨟ (i, tt) ⨟ ((is-j, tt), omega (arith, need .0, small)) ⨟ refl ⨟ refl ⨟ λ _.

@@ -83,16 +83,22 @@ own-spec 𝓤 H 𝓜 𝓖 𝓡 =
     ⨟ _ ⨟ place-met ⨟ (c, tt) ⨟ ((is-c, tt), need .1) ⨟ refl ⨟ refl ⨟ λ is-p.
     _ ⨟ keeps-met ⨟ (placeAt (t .tray) c, (d, tt)) ⨟ ((is-p, (is-d, tt)), tt) ⨟ refl ⨟ refl ⨟ λ is-k.
     _ ⨟ change-of-met ⨟ (kept, (x, (e, tt))) ⨟ ((is-k, (is-x, (is-e, tt))), tt) ⨟ refl ⨟ refl ⨟ λ is-h. tt ⨟ tt ⨟ (tt, tt)
-    ⨟ joined (Unit {0} ⨟ (λ _. (u₁, none ∷ some (vptr b o) ∷ some (vint w64 d) ∷ some (vint w64 c) ∷ some (val acts.event e) ∷ some (val seat s) ∷ some (val cell x)
-    ∷ some (vbool kept) ∷ some (vint w8 ch) ∷ []))
+    ⨟ joined (Unit {0} ⨟ (λ _. (
+      u₁,
+      none ∷ some (vptr b o) ∷ some (vint w64 d) ∷ some (vint w64 c) ∷ some (val acts.event e) ∷ some (val seat s) ∷ some (val cell x)
+          ∷ some (vbool kept) ∷ some (vint w8 ch) ∷ [],
+    ))
     ⨟ (λ yes. ((tt, tt) ⨟ _ ⨟ asking-met ⨟ (s, (d, (e, tt)))
     ⨟ ((is-s, (is-d, (is-e, tt))), (need .0, need .2, need .3, change-asks kept x e (eqb-true ch 1 (is-true (eqb ch 1) yes)))) ⨟ refl ⨟ refl ⨟ λ is-q.
     _ ⨟ put-seat-met ⨟ (d, (askingSeat s d e, tt)) ⨟ ((is-d, (is-q, tt)), need .0) ⨟ refl ⨟ refl ⨟ λ _.
     (tt, sym (if-yes (eqb ch 1) asked t yes), (refl, (refl, (refl, (refl, (refl, (refl, (refl, (refl, tt)))))))), tt)))
     ⨟ (λ no. (tt, sym (if-no (eqb ch 1) asked t no), (refl, (refl, (refl, (refl, (refl, (refl, (refl, (refl, tt)))))))), tt))
     ⨟ (λ _. (tt ⨟ tt ⨟ (tt, tt)
-    ⨟ joined (Unit {0} ⨟ (λ _. (u₂, none ∷ some (vptr b o) ∷ some (vint w64 d) ∷ some (vint w64 c) ∷ some (val acts.event e) ∷ some (val seat s) ∷ some (val cell x)
-    ∷ some (vbool kept) ∷ some (vint w8 ch) ∷ []))
+    ⨟ joined (Unit {0} ⨟ (λ _. (
+      u₂,
+      none ∷ some (vptr b o) ∷ some (vint w64 d) ∷ some (vint w64 c) ∷ some (val acts.event e) ∷ some (val seat s) ∷ some (val cell x)
+          ∷ some (vbool kept) ∷ some (vint w8 ch) ∷ [],
+    ))
     ⨟ (λ yes. ((tt, tt) ⨟ _ ⨟ raising-met ⨟ (s, (d, tt))
     ⨟ ((is-s, (is-d, tt)), (need .0, need .3 (change-stores kept x e (eqb-true ch 2 (is-true (eqb ch 2) yes))))) ⨟ refl ⨟ refl ⨟ λ is-q.
     _ ⨟ new-word-met ⨟ (e, tt) ⨟ ((is-e, tt), tt) ⨟ refl ⨟ refl ⨟ λ is-w.
@@ -100,8 +106,11 @@ own-spec 𝓤 H 𝓜 𝓖 𝓡 =
     (tt, sym (if-yes (eqb ch 2) stored u₁ yes), (refl, (refl, (refl, (refl, (refl, (refl, (refl, (refl, tt)))))))), tt)))
     ⨟ (λ no. (tt, sym (if-no (eqb ch 2) stored u₁ no), (refl, (refl, (refl, (refl, (refl, (refl, (refl, (refl, tt)))))))), tt))
     ⨟ (λ _. (tt ⨟ tt ⨟ (tt, tt)
-    ⨟ joined (Unit {0} ⨟ (λ _. (ownIn t d c e, none ∷ some (vptr b o) ∷ some (vint w64 d) ∷ some (vint w64 c) ∷ some (val acts.event e) ∷ some (val seat s) ∷ some (val cell x)
-    ∷ some (vbool kept) ∷ some (vint w8 ch) ∷ []))
+    ⨟ joined (Unit {0} ⨟ (λ _. (
+      ownIn t d c e,
+      none ∷ some (vptr b o) ∷ some (vint w64 d) ∷ some (vint w64 c) ∷ some (val acts.event e) ∷ some (val seat s) ∷ some (val cell x)
+          ∷ some (vbool kept) ∷ some (vint w8 ch) ∷ [],
+    ))
     ⨟ (λ yes. ((tt, tt) ⨟ _ ⨟ at-met ⨟ (d, (c, tt)) ⨟ ((is-d, (is-c, tt)), (need .0, need .1)) ⨟ refl ⨟ refl ⨟ λ is-j.
     _ ⨟ clear-cell-met ⨟ (i, tt) ⨟ ((is-j, tt), omega (arith, need .0, need .1)) ⨟ refl ⨟ refl ⨟ λ _.
     (tt, sym (if-yes (eqb ch 3) (withCell u₂ i noCell) u₂ yes), (refl, (refl, (refl, (refl, (refl, (refl, (refl, (refl, tt)))))))), tt)))
