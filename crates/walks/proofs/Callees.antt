@@ -63,10 +63,10 @@ by-value D F = record {
 
 -- ---- a result x that is known to be y: its machine value, and that y is one
 module _ (R : Plain) (x y : Of R) (r : Val) (is : Is (rowOf R) x (r ∷ [])) (e : x ≡ y) where
-  value-is : r ≡ val R y
+  pub value-is : r ≡ val R y
   value-is = ap only (R .L .low-is x (r ∷ []) is) ∙ ap (val R) e
 
-  is-one : IsOf R y
+  pub is-one : IsOf R y
   is-one = subst (IsOf R) e (at-val R x (r ∷ []) is)
 
 module _ {M : Type 1} (𝓤 : URA M) (H : Heap 𝓤) (A : Atoms 𝓤) (G : Given 𝓤 H A) (Ts : Tables 𝓤 H) where
