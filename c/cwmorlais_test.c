@@ -274,12 +274,69 @@ static void refuse_at_a_table(void) {
     EXPECT(is_reply(cwmorlais_table_event(&s.table, (cwmorlais_event){.kind = READ}), 9, 0, 0) && same_table(&was, &s.table));
 }
 
+/* ---- The stack: it is painted, and what is no longer paint after a call was used */
+
+enum { PAINTED = 65536, PAINT = 0x5a, OWN = 128 };
+
+__attribute__((noinline)) static void paint(void) {
+    volatile uint8_t *top = __builtin_frame_address(0);
+    for (ptrdiff_t i = OWN; i < PAINTED; i++) top[-i] = PAINT;
+}
+
+__attribute__((noinline)) static ptrdiff_t used(void) {
+    volatile uint8_t *top = __builtin_frame_address(0);
+    ptrdiff_t i = PAINTED - 1;
+    while (i > OWN && top[-i] == PAINT) i--;
+    return i;
+}
+
+static ptrdiff_t most_used(ptrdiff_t before) {
+    ptrdiff_t now = used();
+    return before < now ? now : before;
+}
+
+/* The calls of the whole case, as `play_whole_case` makes them. */
+static void measure_stack(void) {
+    static cwmorlais_started fresh;
+    static cwmorlais_set_up s;
+    static cwmorlais_record desk[3];
+    static cwmorlais_answer a;
+    static cwmorlais_reading r;
+    static frame under_way[3];
+    ptrdiff_t start = 0, event = 0, serve = 0, bring = 0, read = 0, write = 0, set_up = 0, table_event = 0;
+    for (uint32_t d = 0; d < 3; d++) {
+        paint(), fresh = cwmorlais_desk_start(whole_plan, d), start = most_used(start);
+        desk[d] = fresh.record;
+    }
+    paint(), s = cwmorlais_table_set_up(whole_plan), set_up = most_used(set_up);
+    for (int i = 0; i < 13; i++) {
+        const uint32_t *line = whole_case[i];
+        cwmorlais_event e = {.kind = line[0], .desk = line[1], .cell = line[2], .word = line[3]};
+        paint(), cwmorlais_table_event(&s.table, e), table_event = most_used(table_event);
+        if (e.kind == READ || e.kind == WRITE) {
+            paint(), a = cwmorlais_desk_event(&desk[e.desk], e), event = most_used(event);
+        } else {
+            paint(), r = cwmorlais_frame_read(under_way[e.desk], CWMORLAIS_FRAME_BYTES), read = most_used(read);
+        }
+        if (e.kind == TAKE) {
+            cwmorlais_record *keeper = &desk[whole_plan.keepers[r.message.cell]];
+            paint(), a = cwmorlais_desk_serve(keeper, r.message), serve = most_used(serve);
+        }
+        if (e.kind == BRING) paint(), a = cwmorlais_desk_bring(&desk[e.desk], r.message), bring = most_used(bring);
+        if (a.reply.code == 1 || e.kind == TAKE) {
+            paint(), cwmorlais_frame_write(a.message, under_way[e.desk], CWMORLAIS_FRAME_BYTES), write = most_used(write);
+        }
+    }
+    printf("stack: start %d, event %d, serve %d, bring %d, read %d, write %d, set_up %d, table_event %d\n", (int)start, (int)event, (int)serve, (int)bring, (int)read, (int)write, (int)set_up, (int)table_event);
+}
+
 int main(void) {
     play_whole_case();
     refuse_starts();
     refuse_at_a_desk();
     refuse_frames();
     refuse_at_a_table();
+    measure_stack();
     printf("cwmorlais_test: %d passed, %d failed\n", passed, failed);
     return failed != 0;
 }

@@ -1,4 +1,4 @@
-// The library for Rust and C. A lent record is stepped where it lies; a lent table is loaded, goes through an event by value, and is stored.
+// The library for Rust and C. A lent record or table is stepped where it lies.
 ghost use mathlib.Core.Path.{_≡_};
 ghost use Rattle.desk.specs.Rules.{answerOf, eventRule, serveRule, bringRule};
 ghost use Rattle.desk.specs.Start.{startRule};
@@ -79,7 +79,5 @@ pub extern "C" fn cwmorlais_table_set_up(plan: Plan) -> SetUp
 pub extern "C" fn cwmorlais_table_event(t: &mut Table, e: Event) -> Reply
     ensures { λ r. ⌜ (r ≡ tableRule (now (t .entry)) e .reply) × (now (t .exit) ≡ tableRule (now (t .entry)) e .after) ⌝ }
 {
-    let outcome = table_event::event(*t, e);
-    *t = outcome.after;
-    outcome.reply
+    table_step::event(t, e)
 }

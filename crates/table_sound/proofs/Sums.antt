@@ -1,4 +1,4 @@
--- What each function of this crate does, as its callers cite it, and what is known of a table that lies in memory.
+-- What each function of this crate does, as its callers cite it.
 -- Assumes nothing.
 use mathlib.Core.List.{List, [], _∷_}
 use Prim.Native.Nat.{ℕ, _+_, _*_, _<_, _≤_}
@@ -7,20 +7,17 @@ use lib.Dec.{ltb}
 use mir.Syntax.{w64}
 use Rattle.desk.specs.declared.Counts.{Counts}
 use Rattle.desk.specs.Desk.{cellAt, placeAt}
-use Rattle.desk_parts.proofs.Parts.{cell, spot, seat}
 use Rattle.desk_sums.proofs.Sums.{sum}
 use Rattle.desk_sums.specs.declared.Sum.{Sum}
 use Rattle.desk_sums.specs.Rows.{usedSum, pastSum, cellsSum, seatsSum}
 use Rattle.desk_sums.specs.Sums.{usedBy}
 use Rattle.table.specs.declared.Table.{Table}
-use Rattle.table.specs.Rows.{Sized}
 use Rattle.table.specs.Sound.{tableSound}
 use Rattle.table.specs.Table.{seatOf}
-use Rattle.table_parts.proofs.Parts.{table, cells-in, places-in, seats-in}
+use Rattle.table_parts.proofs.Parts.{table}
 use Rattle.theory_lists.specs.Test.{whichever}
 use Rattle.walks.proofs.Lent.{LentFn, Pre, always, where-holds, gives}
-use Rattle.walks.proofs.Parts.{long}
-use Rattle.walks.proofs.Plain.{Plain, Of, IsOf, Args, number, boolean}
+use Rattle.walks.proofs.Plain.{Plain, Of, Args, number, boolean}
 
 -- ---- the functions of this crate, all of which leave the table as it is
 abbrev finds : (Ps : List Plain) (R : Plain) → Pre (Table × Args Ps) → (Table → Args Ps → Of R) → LentFn table
@@ -46,14 +43,6 @@ seats-sum = finds [] sum always (λ t a. seatsSum (t .tray) (seatOf t) 8)
 abbrev pub sound : LentFn table
 sound = finds [] boolean always (λ t a. tableSound t)
 
--- ---- what is known of a table that lies in memory, and of what a desk uses of it
-pub sized : (t : Table) → IsOf table t → Sized t
-sized t is =
-    record {
-      all-cells = long cell 256 (t .cells) (cells-in .part .get-is t is);
-      all-places = long spot 32 (t .tray .places) (places-in .part .get-is t is);
-      all-seats = long seat 8 (t .seats) (seats-in .part .get-is t is);
-    }
-
+-- ---- what a desk uses of a table
 pub used-few : (n : Counts) (d : ℕ) → n .cells ≤ 32 → usedBy n d ≤ 32
 used-few n d few = whichever (λ k. k ≤ 32) (ltb d (n .desks)) (n .cells) 0 few (omega arith)

@@ -68,3 +68,6 @@ abbrev pub step : LentFn table
 step =
     gives table (event ∷ []) reply (where-holds (λ x. tableSound (x .0) ≡ true)) (λ t a. rules.eventRule t (a .0) .reply)
     (λ t a. rules.eventRule t (a .0) .after)
+
+abbrev pub whole : LentFn table
+whole = gives table (event ∷ []) reply always (λ t a. rules.eventRule t (a .0) .reply) (λ t a. rules.eventRule t (a .0) .after)

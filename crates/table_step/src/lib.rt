@@ -49,6 +49,7 @@ use table_parts::put_cell;
 use table_parts::put_seat;
 use table_parts::seat_of;
 use table_parts::tray;
+use table_sound::sound;
 
 // Desk d loses its copies strictly before a clock that it learns; how many.
 fn lose(t: &mut Table, d: usize, learnt: Clock) -> u32
@@ -177,4 +178,14 @@ pub fn step(t: &mut Table, e: Event) -> Reply
         return refused(code);
     }
     done(t, e)
+}
+
+// 1 Read, 2 Write, 3 Take, 4 Bring, 5 Drop.
+pub fn event(t: &mut Table, e: Event) -> Reply
+    ensures { λ r. ⌜ (r ≡ eventRule (now (t .entry)) e .reply) × (now (t .exit) ≡ eventRule (now (t .entry)) e .after) ⌝ }
+{
+    if !sound(t) {
+        return refused(9);
+    }
+    step(t, e)
 }

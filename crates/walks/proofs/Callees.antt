@@ -1,6 +1,6 @@
 -- A function that meets its contract, as the body that calls it has it (`Walk.Callee`, `Walk.Does`). A function over the lent value: the
--- reference is lent again for the call, and comes back. A function by value: what is held stays as it is. `lent` and `valued` are what the
--- caller's proof cites.
+-- reference is lent again for the call, and comes back. A function by value: what is held stays as it is. `lends` and `values`, or with
+-- more written out `lent` and `valued`, are what the caller's proof cites.
 -- Assumes nothing.
 use mathlib.Core.Path.{_≡_, sym, ap, subst, _∙_}
 use mathlib.Core.List.{List, [], _∷_}
@@ -63,10 +63,10 @@ by-value D F = record {
 
 -- ---- a result x that is known to be y: its machine value, and that y is one
 module _ (R : Plain) (x y : Of R) (r : Val) (is : Is (rowOf R) x (r ∷ [])) (e : x ≡ y) where
-  value-is : r ≡ val R y
+  pub value-is : r ≡ val R y
   value-is = ap only (R .L .low-is x (r ∷ []) is) ∙ ap (val R) e
 
-  is-one : IsOf R y
+  pub is-one : IsOf R y
   is-one = subst (IsOf R) e (at-val R x (r ∷ []) is)
 
 module _ {M : Type 1} (𝓤 : URA M) (H : Heap 𝓤) (A : Atoms 𝓤) (G : Given 𝓤 H A) (Ts : Tables 𝓤 H) where
@@ -220,3 +220,10 @@ module _ {M : Type 1} (𝓤 : URA M) (H : Heap 𝓤) (𝓜 : Model 𝓤 H) (𝓖
   pub valued : (F : PlainFn) (f : Name) (r : Routine) → ε f ≡ r → Triple 𝓤 (𝓡 .run r) (PlainMet F 𝓤 H (𝓖 .A)) → Knows f (λ b o. by-value (Of T) F)
   valued F f r p met κ q b o γ =
       plain-does 𝓤 H (𝓖 .A) G Ts F (Of T) (closed 𝓤 H (𝓖 .A) T κ q b o γ) f (at-key (PlainMet F 𝓤 H (𝓖 .A)) f r p met)
+
+  -- the same; the name and the routine are read off the path, so that the callee's `Symbol` need not be named
+  pub lends : (F : LentFn T) {f : Name} {r : Routine} → ε f ≡ r → Triple 𝓤 (𝓡 .run r) (LentMet T F 𝓤 H (𝓖 .A)) → Knows f (on T F)
+  lends F {f} {r} p met = lent F f r p met
+
+  pub values : (F : PlainFn) {f : Name} {r : Routine} → ε f ≡ r → Triple 𝓤 (𝓡 .run r) (PlainMet F 𝓤 H (𝓖 .A)) → Knows f (λ b o. by-value (Of T) F)
+  values F {f} {r} p met = valued F f r p met

@@ -202,7 +202,7 @@ module _ {M : Type 1} (𝓤 : URA M) (H : Heap 𝓤) (A : Atoms 𝓤) (T : Plain
 abbrev pub Returns : (T : Plain) (F : LentFn T) → Of T → Args (F .Ps) → Val → Of T → Type 2
 Returns T F t a v t′ = (v ≡ val (F .R) (F .res t a)) × IsOf (F .R) (F .res t a) × (t′ ≡ F .after t a) × Unit {2}
 
-beside : {M : Type 1} (𝓤 : URA M) (P : SProp 𝓤) {Q : SProp 𝓤} → ent 𝓤 (emp 𝓤) Q → ent 𝓤 P (sep 𝓤 P Q)
+pub beside : {M : Type 1} (𝓤 : URA M) (P : SProp 𝓤) {Q : SProp 𝓤} → ent 𝓤 (emp 𝓤) Q → ent 𝓤 P (sep 𝓤 P Q)
 beside 𝓤 P {Q} free = via 𝓤 (sep 𝓤 (emp 𝓤) P) (emp∗ 𝓤 P) (via 𝓤 (sep 𝓤 Q P) (monoL 𝓤 P free) (comm∗ 𝓤 Q P))
 
 module _ {M : Type 1} (𝓤 : URA M) (H : Heap 𝓤) (A : Atoms 𝓤) (W : Given 𝓤 H A) (T : Plain) (F : LentFn T) where

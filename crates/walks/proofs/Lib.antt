@@ -7,4 +7,5 @@ pub mod Lent
 pub mod Locals
 pub mod Parts
 pub mod Plain
+pub mod Shared
 pub mod Walk

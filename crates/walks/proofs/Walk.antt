@@ -231,8 +231,8 @@ module _ {M : Type 1} {𝓤 : URA M} {H : Heap 𝓤} {A : Atoms 𝓤} (W : Given
 
     opd-of : (ls : Locals) (x : Operand) (K : Val → Type 2) → OpdOk ls x K → (v : Val) × HasOpd ls x v × K v
     opd-of ls (copy (place i [])) K k = local-opd ls i (valAt τs ls i) refl K k
-    opd-of ls (copy (place i (x ∷ st))) K k = (one k, one (two k), two (two k))
-    opd-of ls (int w n) K k = (vint w n, (λ bs I. lit ! (one k)), two k)
+    opd-of ls (copy (place i (x ∷ st))) K (v ⨟ has ⨟ k) = (v, has, k)
+    opd-of ls (int w n) K (small ⨟ k) = (vint w n, (λ bs I. lit ! small), k)
     opd-of ls (intNeg w n) K k = elim k [ ]
     opd-of ls (intBig w n) K k = elim k [ ]
     opd-of ls (float f n) K k = elim k [ ]
@@ -267,7 +267,7 @@ module _ {M : Type 1} {𝓤 : URA M} {H : Heap 𝓤} {A : Atoms 𝓤} (W : Given
 
     rv-of : (s : State) (rv : RValue) (K : Val → Type 2) → RvOk s rv K → (v : Val) × HasRv s rv v × K v
     rv-of s (rvOpd (copy (place i []))) K k = as-rv s (copy (place i [])) K (local-opd (s .1) i (valAt τs (s .1) i) refl K k)
-    rv-of s (rvOpd (copy (place i (x ∷ st)))) K k = (one k, one (two k), two (two k))
+    rv-of s (rvOpd (copy (place i (x ∷ st)))) K (v ⨟ has ⨟ k) = (v, has, k)
     rv-of s (rvOpd (int w n)) K k = as-rv s (int w n) K (opd-of (s .1) (int w n) K k)
     rv-of s (rvOpd (intNeg w n)) K k = elim k [ ]
     rv-of s (rvOpd (intBig w n)) K k = elim k [ ]
@@ -285,8 +285,8 @@ module _ {M : Type 1} {𝓤 : URA M} {H : Heap 𝓤} {A : Atoms 𝓤} (W : Given
         (op1Val o (x₁ .0), (λ bs. un ! (x₁ .1 bs (item (s .0))) (one (x₁ .2))), two (x₁ .2))
     rv-of s (addrOf (place i [])) K k = elim k [ ]
     rv-of s (addrOf (place i (deref τ ∷ []))) K k = addr-of s i τ (valAt τs (s .1) i) refl K k
-    rv-of s (addrOf (place i (deref τ ∷ x ∷ st))) K k = (one k, one (two k), two (two k))
-    rv-of s (addrOf (place i (field j ∷ st))) K k = (one k, one (two k), two (two k))
+    rv-of s (addrOf (place i (deref τ ∷ x ∷ st))) K (v ⨟ has ⨟ k) = (v, has, k)
+    rv-of s (addrOf (place i (field j ∷ st))) K (v ⨟ has ⨟ k) = (v, has, k)
     rv-of s (addrOf (place i (variant j ∷ st))) K k = elim k [ ]
     rv-of s (aggregate xs) K k =
         let all = opds-of (s .1) xs (λ vs. K (vstruct (ofList vs))) k in
@@ -399,11 +399,10 @@ module _ {M : Type 1} {𝓤 : URA M} {H : Heap 𝓤} {A : Atoms 𝓤} (W : Given
       module _ (c : Operand) (a b : Body) (Q : Ends) (q : Out → SProp 𝓤) (s : State) (h : Holds Q q)
           (f : (P : Ends) → Holds P q → Ok a P s → Runs a q s) (g : (P : Ends) → Holds P q → Ok b P s → Runs b q s) where
         both-arms : (y : Bool) → Opd (Go {0}) W (Context bs s) (envOf bs) c (vbool y) → Tested a b Q s y → Runs (cond c a b) q s
-        both-arms y o (apart k) = branches ! o (λ z. f Q h (one k z)) (λ z. g Q h (two k z))
-        both-arms y o (joined k) =
-            let J = one (two k) in
-            let to-rest = join-holds J Q q h (two (two (two (two k)))) in
-            branches ! o (λ z. f (joinOk J Q) to-rest (one (two (two k)) z)) (λ z. g (joinOk J Q) to-rest (one (two (two (two k))) z))
+        both-arms y o (apart (if-so ⨟ if-not)) = branches ! o (λ z. f Q h (if-so z)) (λ z. g Q h (if-not z))
+        both-arms y o (joined (Y ⨟ meet ⨟ if-so ⨟ if-not ⨟ after)) =
+            let to-rest = join-holds meet Q q h after in
+            branches ! o (λ z. f (joinOk meet Q) to-rest (if-so z)) (λ z. g (joinOk meet Q) to-rest (if-not z))
 
         on-test : (v : Val) → Opd (Go {0}) W (Context bs s) (envOf bs) c v → ifBool v (Tested a b Q s) → Runs (cond c a b) q s
         on-test (vbool y) o k = both-arms y o k
@@ -415,16 +414,12 @@ module _ {M : Type 1} {𝓤 : URA M} {H : Heap 𝓤} {A : Atoms 𝓤} (W : Given
 
       calls-it : (f : Name) (xs : List Operand) (i : ℕ) (Q : Ends) (q : Out → SProp 𝓤) → Holds Q q → (s : State)
           → Ok (call f xs (place i [])) Q s → Runs (call f xs (place i [])) q s
-      calls-it f xs i Q q h s k =
-          let F : Callee D = one k in
-          let does : Does f F = one (two k) in
-          let a : F .Arg = one (two (two k)) in
-          let ask : F .Ask (s .0) a = one (two (two (two k))) in
+      calls-it f xs i Q q h s (F ⨟ does ⨟ a ⨟ ask ⨟ k) =
           let vs : List Val = F .vals a in
           let r : Val = F .res (s .0) a in
           let t : D = F .after (s .0) a in
           let Go-on : Ty → Type 2 = λ τ. Then (τ ≡ F .ty) (λ _. F .know (s .0) a → Q next (t, putAt τs (s .1) i r)) in
-          let os = opds-of (s .1) xs (λ us. Then (us ≡ vs) (λ _. ifLocal τs i Go-on)) (two (two (two (two k)))) in
+          let os = opds-of (s .1) xs (λ us. Then (us ≡ vs) (λ _. ifLocal τs i Go-on)) k in
           let l = if-local τs i Go-on (two (os .2)) in
           let R : Val → SProp 𝓤 = λ u. H .⇛ (guard 𝓤 ((u ≡ r) × F .know (s .0) a) (Is (item t))) in
           let P : SProp 𝓤 = 𝓣 .C f vs R in
@@ -451,17 +446,12 @@ module _ {M : Type 1} {𝓤 : URA M} {H : Heap 𝓤} {A : Atoms 𝓤} (W : Given
           let r = rv-of s rv (λ v. Then D (λ t. Then (Stores s (place i (x ∷ st)) v t) (λ _. Q next (t, s .1)))) k in
           assigns-last ! (r .1 bs) (one (two (r .2)) bs .1) (one (two (r .2)) bs .2) $ by ! (h next (one (r .2), s .1) (two (two (r .2))))
       ok-runs (block b) Q q h s k = blocks ! $ ok-runs b (blockOk Q) (afterBlock 𝓤 H q) (block-holds Q q h) s k
-      ok-runs (loop b) Q q h s k =
-          let ≺ = one (two k) in
-          let wf = one (two (two k)) in
-          let at = one (two (two (two k))) in
-          let x = one (two (two (two (two k)))) in
-          let rest-of = two (two (two (two (two k)))) in
+      ok-runs (loop b) Q q h s (X ⨟ ≺ ⨟ wf ⨟ at ⨟ x ⨟ e ⨟ w ⨟ turn) =
           record {
             prf =
-                via 𝓤 (Stars W (Context bs (at x))) (becomes s (at x) (one rest-of) (one (two rest-of)))
+                via 𝓤 (Stars W (Context bs (at x))) (becomes s (at x) e w)
                 (loops ! 𝓣 ≺ wf (λ y. Context bs (at y)) {q = anyQ q} (λ y. ok-runs b (turnOk (Again ≺ at y) Q)
-                (afterTurn 𝓤 H (Below 𝓤 H A ≺ (λ z. Context bs (at z)) y) q) (turn-holds ≺ at y Q q h) (at y) (two (two rest-of) y)) x .prf);
+                (afterTurn 𝓤 H (Below 𝓤 H A ≺ (λ z. Context bs (at z)) y) q) (turn-holds ≺ at y Q q h) (at y) (turn y)) x .prf);
           }
       ok-runs (cond c a b) Q q h s k =
           let o = opd-of (s .1) c (λ v. ifBool v (Tested a b Q s)) k in
