@@ -8,4 +8,5 @@ pub mod Locals
 pub mod Parts
 pub mod Plain
 pub mod Shared
+pub mod Through
 pub mod Walk
