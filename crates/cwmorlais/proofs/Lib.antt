@@ -1,3 +1,1 @@
-pub mod Lendings
 pub mod Places
-pub mod Walk

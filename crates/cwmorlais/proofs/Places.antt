@@ -23,7 +23,7 @@ use Rattle.frame.proofs.Reading.Laws as Reading
 use Rattle.frame.proofs.Written.Laws as Written
 use Rattle.table.proofs.SetUp.Laws as SetUp
 use Rattle.table.proofs.Table.Laws as Table
-use Rattle.cwmorlais.proofs.Answer.Laws as Answer
+use Rattle.desk.proofs.Answer.Laws as Answer
 
 abbrev placeIn : Option (Ty × ℕ) → ℕ
 placeIn none = 0

@@ -1,22 +1,18 @@
--- What a lent function answers of a step, and what its promise comes to: a refusal leaves what is lent as it was, and no choice is left.
+-- What the promise of a lent function comes to: a refusal leaves what is lent as it was, and no choice is left.
 -- Assumes nothing.
 use mathlib.Core.Path.{_≡_, sym, _∙_, ap}
 use Prim.Native.Nat.{ℕ}
+use Rattle.desk.specs.declared.Answer.{Answer}
 use Rattle.desk.specs.declared.Event.{Event}
 use Rattle.desk.specs.declared.Message.{Message}
 use Rattle.desk.specs.declared.Record.{Record}
 use Rattle.desk.specs.declared.Step.{Step}
 use Rattle.desk.specs.Desk.{noMessage}
-use Rattle.desk.specs.Rules.{refused, eventRefusal, eventRule, serveRefusal, serveRule, bringRefusal, bringRule}
+use Rattle.desk.specs.Rules.{answerOf, refused, eventRefusal, eventRule, serveRefusal, serveRule, bringRefusal, bringRule}
 use Rattle.desk.specs.StepLaws.{event-refused, serve-refused, bring-refused}
 use Rattle.table.specs.declared.Table.{Table}
 use Rattle.table.specs.Rules as table
 use Rattle.table.specs.RuleLaws as laws
-use Rattle.cwmorlais.specs.declared.Answer.{Answer}
-
--- the reply and the message; the step's record goes back to the lender
-abbrev pub answerOf : Step → Answer
-answerOf s = record { reply = s .reply; message = s .message }
 
 -- any two answers, and any two lent values, that meet a promise are equal
 pub no-choice : {A B : Type 0} {a r r′ : A} {b v v′ : B} → (r ≡ a) × (v ≡ b) → (r′ ≡ a) × (v′ ≡ b) → (r ≡ r′) × (v ≡ v′)

@@ -1,11 +1,11 @@
-// The library for Rust and C. A lent table is stepped where it lies; a lent record is loaded, goes through a step by value, and is stored.
+// The library for Rust and C. A lent record or table is stepped where it lies.
 ghost use mathlib.Core.Path.{_≡_};
-ghost use Rattle.desk.specs.Rules.{eventRule, serveRule, bringRule};
+ghost use Rattle.desk.specs.Rules.{answerOf, eventRule, serveRule, bringRule};
 ghost use Rattle.desk.specs.Start.{startRule};
 ghost use Rattle.frame.specs.Frame.{readRule, writeRule, outputRule};
 ghost use Rattle.table.specs.Rules.{eventRule as tableRule};
 ghost use Rattle.table.specs.SetUp.{setUpRule};
-ghost use Rattle.cwmorlais.specs.Answers.{answerOf};
+use desk::Answer;
 use desk::Event;
 use desk::Message;
 use desk::Plan;
@@ -16,13 +16,6 @@ use frame::Reading;
 use frame::Written;
 use table::SetUp;
 use table::Table;
-
-// What a step gives beside the record, which goes back to the lender.
-#[repr(C)]
-pub struct Answer {
-    pub reply: Reply,
-    pub message: Message,
-}
 
 // A desk's fresh record.
 #[no_mangle]
@@ -37,12 +30,7 @@ pub extern "C" fn cwmorlais_desk_start(plan: Plan, desk: u32) -> Started
 pub extern "C" fn cwmorlais_desk_event(v: &mut Record, e: Event) -> Answer
     ensures { λ r. ⌜ (r ≡ answerOf (eventRule (now (v .entry)) e)) × (now (v .exit) ≡ eventRule (now (v .entry)) e .after) ⌝ }
 {
-    let step = desk_event::event(*v, e);
-    *v = step.after;
-    Answer {
-        reply: step.reply,
-        message: step.message,
-    }
+    desk_step::event(v, e)
 }
 
 // A request came for a cell that this desk keeps. With code 0 the message is the answer, for the desk that asked.
@@ -50,12 +38,7 @@ pub extern "C" fn cwmorlais_desk_event(v: &mut Record, e: Event) -> Answer
 pub extern "C" fn cwmorlais_desk_serve(v: &mut Record, m: Message) -> Answer
     ensures { λ r. ⌜ (r ≡ answerOf (serveRule (now (v .entry)) m)) × (now (v .exit) ≡ serveRule (now (v .entry)) m .after) ⌝ }
 {
-    let step = desk_serve::serve(*v, m);
-    *v = step.after;
-    Answer {
-        reply: step.reply,
-        message: step.message,
-    }
+    desk_step::serve(v, m)
 }
 
 // The answer came to what this desk asked.
@@ -63,12 +46,7 @@ pub extern "C" fn cwmorlais_desk_serve(v: &mut Record, m: Message) -> Answer
 pub extern "C" fn cwmorlais_desk_bring(v: &mut Record, m: Message) -> Answer
     ensures { λ r. ⌜ (r ≡ answerOf (bringRule (now (v .entry)) m)) × (now (v .exit) ≡ bringRule (now (v .entry)) m .after) ⌝ }
 {
-    let step = desk_bring::bring(*v, m);
-    *v = step.after;
-    Answer {
-        reply: step.reply,
-        message: step.message,
-    }
+    desk_step::bring(v, m)
 }
 
 // The message whose frame the bytes start with.

@@ -8,6 +8,7 @@ use lib.ListN.{set}
 use Rattle.clock.specs.declared.Clock.{Clock}
 use Rattle.clock.specs.Clock.{number, zeroClock, merged, raised, isWithin}
 use Rattle.theory_refusals.specs.Refusals.{Line, firstOf, unless}
+use Rattle.desk.specs.declared.Answer.{Answer}
 use Rattle.desk.specs.declared.Cell.{Cell}
 use Rattle.desk.specs.declared.Event.{Event}
 use Rattle.desk.specs.declared.Message.{Message}
@@ -65,6 +66,10 @@ refusedReply n = record { code = n; value = 0; count = 0 }
 -- "A refusal changes nothing in the record and gives an all-zero message."
 abbrev pub refused : Record → ℕ → Step
 refused v n = replied n noWord 0 noMessage v
+
+-- the reply and the message; the step's record goes back to the lender
+abbrev pub answerOf : Step → Answer
+answerOf s = record { reply = s .reply; message = s .message }
 
 -- "code 0 and the word, or code 2 and 0 if blank"
 abbrev pub shownCode : Bool → ℕ

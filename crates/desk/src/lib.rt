@@ -153,6 +153,13 @@ pub struct Step {
     pub after: Record,
 }
 
+// What a step gives beside the record, which goes back to the lender.
+#[repr(C)]
+pub struct Answer {
+    pub reply: Reply,
+    pub message: Message,
+}
+
 // All that set-up and start are told. Any number may stand anywhere; keepers past the cell count are ignored.
 #[repr(C)]
 pub struct Plan {

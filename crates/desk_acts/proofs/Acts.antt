@@ -2,24 +2,29 @@
 -- Assumes nothing.
 use mathlib.Core.Path.{_≡_, refl}
 use mathlib.Core.Bool.{not, _&&_}
-use mathlib.Core.List.{[], _∷_}
+use mathlib.Core.List.{List, [], _∷_}
 use Prim.Native.Nat.{_+_, _*_, _<_, _≤_}
 use lib.Dec.{eqb, leb, ltb}
 use mir.Syntax.{w8, w32, w64}
 use Rattle.clock.proofs.Clock as K
 use Rattle.clock.proofs.Clock.Laws as K′
 use Rattle.clock.specs.Clock.{number as number·def}
+use Rattle.desk.proofs.Answer as A
+use Rattle.desk.proofs.Answer.Laws as A′
 use Rattle.desk.proofs.Event as E
 use Rattle.desk.proofs.Event.Laws as E′
+use Rattle.desk.proofs.Message as M
+use Rattle.desk.proofs.Message.Laws as M′
 use Rattle.desk.proofs.Reply as Y
 use Rattle.desk.proofs.Reply.Laws as Y′
 use Rattle.desk.specs.Desk.{heldCell, keptBy}
 use Rattle.desk.specs.Parts.{changeOf, askingSeat, raisedSeat, ownReply, tookSeat, answeredSeat, homeSeat, broughtCell, broughtReply, replyOf, losesIf}
+use Rattle.desk.specs.Parts.{refusedAnswer, ownAnswer, servedAnswer, broughtAnswer}
 use Rattle.desk.specs.Rules.{refusedReply, seatLines}
 use Rattle.desk_parts.proofs.Parts.{cell, spot, counts, tray, seat}
 use Rattle.theory_refusals.specs.Refusals.{firstOf}
 use Rattle.walks.proofs.Lent.{PlainFn, Pre, always, where-holds}
-use Rattle.walks.proofs.Plain.{Plain, Args, Form, form, number, boolean, struct}
+use Rattle.walks.proofs.Plain.{Plain, Of, Args, Form, form, number, boolean, struct}
 
 -- ---- the types
 abbrev pub clock : Plain
@@ -30,6 +35,12 @@ event = struct (form E.struct E.propositions E′.the-laws E′.lowers E′.the-
 
 abbrev pub reply : Plain
 reply = struct (form Y.struct Y.propositions Y′.the-laws Y′.lowers Y′.the-plain (λ d. refl) (λ v. tt))
+
+abbrev pub message : Plain
+message = struct (form M.struct M.propositions M′.the-laws M′.lowers M′.the-plain (λ d. refl) (λ v. tt))
+
+abbrev pub answer : Plain
+answer = struct (form A.struct A.propositions A′.the-laws A′.lowers A′.the-plain (λ d. refl) (λ v. tt))
 
 -- ---- the functions
 -- what a desk that asks must have: a place in its clock, a cell in range, a number that can be raised, and a read or a write
@@ -121,3 +132,43 @@ keeps = record { Ps = spot ∷ number w64 ∷ []; R = boolean; pre = always; res
 
 abbrev pub seat-refusal : PlainFn
 seat-refusal = record { Ps = tray ∷ number w8 ∷ seat ∷ event ∷ []; R = number w32; pre = where-holds (λ a. (a .1 .0 < 8) × (a .0 .counts .cells ≤ 32)); res = λ a. firstOf (seatLines (a .0) (a .1 .0) (a .1 .1 .0) (a .1 .1 .1 .0)) }
+
+-- ---- of a record's desk and of a message, and answers
+abbrev pub desk-index : PlainFn
+desk-index = record { Ps = number w8 ∷ []; R = number w64; pre = always; res = λ a. a .0 }
+
+abbrev of-message : (R : Plain) → (Args (message ∷ []) → Of R) → PlainFn
+of-message R res = record { Ps = message ∷ []; R = R; pre = always; res = res }
+
+abbrev pub named-cell : PlainFn
+named-cell = of-message (number w64) (λ a. a .0 .cell)
+
+abbrev pub sends-write : PlainFn
+sends-write = of-message boolean (λ a. eqb (a .0 .kind) 2)
+
+abbrev pub sent-clock : PlainFn
+sent-clock = of-message clock (λ a. a .0 .clock)
+
+abbrev pub sent-word : PlainFn
+sent-word = of-message (number w32) (λ a. a .0 .word)
+
+abbrev pub brought-by : PlainFn
+brought-by = record { Ps = seat ∷ message ∷ []; R = cell; pre = always; res = λ a. broughtCell (a .0 .served) (a .1 .0 .word) (a .1 .0 .clock) }
+
+abbrev answers : (Ps : List Plain) → Pre (Args Ps) → (Args Ps → Of answer) → PlainFn
+answers Ps pre res = record { Ps = Ps; R = answer; pre = pre; res = res }
+
+abbrev pub refused-answer : PlainFn
+refused-answer = answers (number w32 ∷ []) always (λ a. refusedAnswer (a .0))
+
+abbrev pub own-answer : PlainFn
+own-answer =
+    answers (boolean ∷ cell ∷ event ∷ counts ∷ number w8 ∷ seat ∷ []) always
+    (λ a. ownAnswer (a .0) (a .1 .0) (a .1 .1 .0) (a .1 .1 .1 .0) (a .1 .1 .1 .1 .0) (a .1 .1 .1 .1 .1 .0 .slot))
+
+abbrev pub served-answer : PlainFn
+served-answer =
+    answers (number w32 ∷ message ∷ cell ∷ []) (where-holds (λ a. a .1 .0 .kind < 3)) (λ a. servedAnswer (a .0) (a .1 .0) (a .1 .1 .0))
+
+abbrev pub brought-answer : PlainFn
+brought-answer = answers (number w32 ∷ message ∷ []) always (λ a. broughtAnswer (a .0) (a .1 .0))

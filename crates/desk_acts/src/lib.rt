@@ -7,12 +7,15 @@ ghost use lib.Dec.{eqb, leb, ltb};
 ghost use Rattle.clock.specs.Clock.{number, raised};
 ghost use Rattle.desk.specs.Desk.{heldCell, isBlank, oneIf};
 ghost use Rattle.desk.specs.Parts.{changeOf, askedFor, askingSeat, raisedSeat, readReply, writeReply, ownReply, tookSeat, answeredSeat, homeSeat, broughtCell, broughtReply, replyOf, losesIf};
+ghost use Rattle.desk.specs.Parts.{refusedAnswer, askedMessage, ownAnswer, servedAnswer, broughtAnswer};
 ghost use Rattle.desk.specs.Rules.{shownCode, refusedReply};
 ghost use Rattle.theory_refusals.specs.Refusals.{firstOf};
 use clock::Clock;
+use desk::Answer;
 use desk::Cell;
 use desk::Counts;
 use desk::Event;
+use desk::Message;
 use desk::Place;
 use desk::Reply;
 use desk::Seat;
@@ -381,4 +384,111 @@ pub fn unplaced(n: Counts, e: Event) -> u32
         return 10;
     }
     0
+}
+
+// ---- what a walk asks of a record's desk, and of a message
+pub fn desk_index(desk: u8) -> usize
+    ensures { λ r. ⌜ r ≡ desk ⌝ }
+{
+    desk as usize
+}
+
+pub fn named_cell(m: Message) -> usize
+    ensures { λ r. ⌜ r ≡ m .cell ⌝ }
+{
+    m.cell as usize
+}
+
+pub fn sends_write(m: Message) -> bool
+    ensures { λ r. ⌜ r ≡ eqb (m .kind) 2 ⌝ }
+{
+    m.kind == 2
+}
+
+pub fn sent_clock(m: Message) -> Clock
+    ensures { λ r. ⌜ r ≡ m .clock ⌝ }
+{
+    m.clock
+}
+
+pub fn sent_word(m: Message) -> u32
+    ensures { λ r. ⌜ r ≡ m .word ⌝ }
+{
+    m.word
+}
+
+// The cell that an answer names, once it is brought home to a seat.
+pub fn brought_by(s: Seat, m: Message) -> Cell
+    ensures { λ r. ⌜ r ≡ broughtCell (s .served) (m .word) (m .clock) ⌝ }
+{
+    brought(s.served, m.word, m.clock)
+}
+
+// ---- answers
+pub fn refused_answer(code: u32) -> Answer
+    ensures { λ r. ⌜ r ≡ refusedAnswer code ⌝ }
+{
+    Answer {
+        reply: refused(code),
+        message: Message::NONE,
+    }
+}
+
+// A desk that asks (change 1) sends what stands in its slot.
+fn asked_message(change: u8, n: Counts, desk: u8, s: Slot) -> Message
+    ensures { λ r. ⌜ r ≡ askedMessage change n desk s ⌝ }
+{
+    if change != 1 {
+        return Message::NONE;
+    }
+    let clock = s.clock;
+    Message {
+        kind: s.kind,
+        desks: n.desks,
+        desk,
+        cell: s.cell,
+        word: s.word,
+        clock,
+    }
+}
+
+// To an own event; s is the seat afterwards.
+pub fn own_answer(kept: bool, x: Cell, e: Event, n: Counts, desk: u8, s: Seat) -> Answer
+    ensures { λ r. ⌜ r ≡ ownAnswer kept x e n desk (s .slot) ⌝ }
+{
+    let change = change_of(kept, x, e);
+    let slot = s.slot;
+    Answer {
+        reply: own_reply(kept, x, e),
+        message: asked_message(change, n, desk, slot),
+    }
+}
+
+// To a request, with what the keeper's cell now has.
+pub fn served_answer(count: u32, m: Message, x: Cell) -> Answer
+    requires { ⌜ m .kind < 3 ⌝ }
+    ensures { λ r. ⌜ r ≡ servedAnswer count m x ⌝ }
+{
+    let clock = x.stamp;
+    let message = Message {
+        kind: m.kind + 2,
+        desks: m.desks,
+        desk: m.desk,
+        cell: m.cell,
+        word: x.word,
+        clock,
+    };
+    Answer {
+        reply: dropped(count),
+        message,
+    }
+}
+
+pub fn brought_answer(count: u32, m: Message) -> Answer
+    ensures { λ r. ⌜ r ≡ broughtAnswer count m ⌝ }
+{
+    Answer {
+        reply: bring_reply(m.kind, m.word, m.clock, count),
+        message: Message::NONE,
+    }
 }

@@ -67,6 +67,9 @@ places-of-tray = field-of tray-form 1 refl refl
 abbrev pub tray-in : Part desk-record tray
 tray-in = field-of record-form 0 refl refl
 
+abbrev pub counts-in : Part desk-record counts
+counts-in = of tray-in counts-of-tray
+
 abbrev pub desk-in : Part desk-record (number w8)
 desk-in = field-of record-form 1 refl refl
 
@@ -82,6 +85,9 @@ row-in = record { part = field-of record-form 3 refl refl; past = pastCell; fits
 -- ---- the functions
 abbrev pub own-tray : LentFn desk-record
 own-tray = getter tray-in
+
+abbrev pub own-counts : LentFn desk-record
+own-counts = getter counts-in
 
 abbrev pub own-place : LentFn desk-record
 own-place = getter-at places-in

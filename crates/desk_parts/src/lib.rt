@@ -4,6 +4,7 @@ ghost use Prim.Native.Nat.{_<_};
 ghost use Rattle.desk.specs.Desk.{noCell, cellAt, placeAt};
 ghost use Rattle.desk.specs.Rules.{withSeat, holds};
 use desk::Cell;
+use desk::Counts;
 use desk::Place;
 use desk::Record;
 use desk::Seat;
@@ -13,6 +14,12 @@ pub fn own_tray(v: &mut Record) -> Tray
     ensures { λ r. ⌜ (r ≡ now (v .entry) .tray) × (now (v .exit) ≡ now (v .entry)) ⌝ }
 {
     v.tray
+}
+
+pub fn own_counts(v: &mut Record) -> Counts
+    ensures { λ r. ⌜ (r ≡ now (v .entry) .tray .counts) × (now (v .exit) ≡ now (v .entry)) ⌝ }
+{
+    v.tray.counts
 }
 
 // The place of cell c.

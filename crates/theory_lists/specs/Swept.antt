@@ -10,7 +10,7 @@ use native.Mathlib.Nat.{add-zero, zero-add}
 use native.Mathlib.Numerals.{add-one}
 use native.Mathlib.Omega.{arith}
 use lib.ListN.{length, getD, set, drop, length-set, length-drop, List·getD-eq-default}
-use lib.Seq.{slice, paste, getD-set-same, getD-set-other, getD-drop, length-slice, length-paste, ext-getD}
+use lib.Seq.{slice, paste, getD-set-same, getD-set-other, getD-drop, length-slice, length-paste, take-all, ext-getD}
 use Rattle.theory_lists.specs.Each.{mapAt, length-mapAt, getD-mapAt}
 use Rattle.theory_lists.specs.Part.{getD-slice, paste-in, paste-out}
 use Rattle.theory_lists.specs.Sum.{sum, sum-turn, sum-le}
@@ -153,3 +153,29 @@ module _ {A : Type 0} (test : ℕ → A → Bool) (none d : A) (base : ℕ) wher
 
     pub swept-count : sweptCount n l ≡ sum (mapAt one row)
     swept-count = sym (so-far n few ∙ ap (λ (k : ℕ). sweptCount n l + k) none-left ∙ add-zero (sweptCount n l))
+
+-- ---- a list swept from its start, of which the places past n have nothing to lose
+module _ {A : Type 0} (test : ℕ → A → Bool) (none d : A) (n : ℕ) (l : List A) (few : n ≤ length l)
+    (past : (c : ℕ) → n ≤ c → c < length l → test c (getD l c d) ≡ false) where
+  past-at : (c : ℕ) → n ≤ c → c < length l → test c (getD l (0 + c) d) ≡ false
+  past-at c h i = rw (zero-add c) (past c h i)
+
+  all : slice 0 (0 + length l) l ≡ l
+  all = take-all (0 + length l) l (omega arith)
+
+  pub swept-all : swept test none d 0 n l ≡ mapAt (λ c x. cond (test c x) none x) l
+  swept-all =
+      let left : ℕ → A → A = λ c x. cond (test c x) none x in
+      ext-getD d (swept test none d 0 n l) (mapAt left l) (length-swept test none d 0 n l ∙ sym (length-mapAt left l))
+      (λ k h. at k (omega (arith, length-swept test none d 0 n l)))
+    where
+      at : (k : ℕ) → k < length l → getD (swept test none d 0 n l) k d ≡ getD (mapAt (λ c x. cond (test c x) none x) l) k d
+      at k h =
+          ap (λ (j : ℕ). getD (swept test none d 0 n l) j d) (sym (zero-add k))
+          ∙ swept-in test none d 0 n (length l) l few (omega arith) past-at k h
+          ∙ ap (λ (j : ℕ). cond (test k (getD l j d)) none (getD l j d)) (zero-add k)
+          ∙ sym (getD-mapAt (λ c x. cond (test c x) none x) l k d d h)
+
+  pub swept-all-count : sweptCount test none d 0 n l ≡ sum (mapAt (λ c x. cond (test c x) 1 0) l)
+  swept-all-count =
+      swept-count test none d 0 n (length l) l few (omega arith) past-at ∙ ap (λ (m : List A). sum (mapAt (λ c x. cond (test c x) 1 0) m)) all

@@ -13,6 +13,8 @@ use Rattle.desk_sums.proofs.no_sum.Met as no-sum-thm
 use Rattle.desk_sums.proofs.no_sum.Symbol as no-sum
 use Rattle.desk_sums.proofs.used_by.Met as used-by-thm
 use Rattle.desk_sums.proofs.used_by.Symbol as used-by
+use Rattle.desk_sums.proofs.Sums as adds
+use Rattle.desk_sums.proofs.Sums.{Turn, Later, falls, start, count-is, count-fits, next, nearer, ended, laid}
 use Rattle.desk_sums.specs.declared.Sum.{Sum}
 use Rattle.desk_sums.specs.Rows.{usedSum, cellsSum, cells-none, cells-next}
 use Rattle.desk_sums.specs.Sums.{usedBy}
@@ -24,7 +26,7 @@ use Rattle.walks.proofs.Lent.{calling, W}
 use Rattle.walks.proofs.Plain.{val, has-type}
 use Rattle.walks.proofs.Walk.{_⨟_, apart}
 use Rattle.table_sound.proofs.Sums as sums
-use Rattle.table_sound.proofs.Sums.{used-few, Turn, Later, falls, start, count-is, count-fits, next, nearer, ended, laid}
+use Rattle.table_sound.proofs.Sums.{used-few}
 use Rattle.table_sound.proofs.past_sum.Met as past-thm
 use Rattle.table_sound.proofs.past_sum.Symbol as past
 use Rattle.table_sound.proofs.used_sum.Met as used-thm
@@ -40,17 +42,17 @@ cells-sum-spec 𝓤 H 𝓜 𝓖 𝓡 =
     refl (λ κ q b o γ t a is-a is need.
     let lends = lent 𝓤 H 𝓜 𝓖 𝓡 code.env parts.table in
     let values = valued 𝓤 H 𝓜 𝓖 𝓡 code.env parts.table in
-    let no-sum-met = values sums.no-sum no-sum.name no-sum.routine code.calls-desk-sums·no-sum (no-sum-thm.met 𝓤 H 𝓜 𝓖 𝓡) κ q b o γ in
+    let no-sum-met = values adds.no-sum no-sum.name no-sum.routine code.calls-desk-sums·no-sum (no-sum-thm.met 𝓤 H 𝓜 𝓖 𝓡) κ q b o γ in
     let counts-met = lends parts.counts counts.name counts.routine code.calls-table-parts·counts (counts-thm.met 𝓤 H 𝓜 𝓖 𝓡) κ q b o γ in
-    let used-by-met = values sums.used-by used-by.name used-by.routine code.calls-desk-sums·used-by (used-by-thm.met 𝓤 H 𝓜 𝓖 𝓡) κ q b o γ in
+    let used-by-met = values adds.used-by used-by.name used-by.routine code.calls-desk-sums·used-by (used-by-thm.met 𝓤 H 𝓜 𝓖 𝓡) κ q b o γ in
     let used-met = lends sums.used-sum used.name used.routine code.calls-table-sound·used-sum (used-thm.met 𝓤 H 𝓜 𝓖 𝓡) κ q b o γ in
     let past-met = lends sums.past-sum past.name past.routine code.calls-table-sound·past-sum (past-thm.met 𝓤 H 𝓜 𝓖 𝓡) κ q b o γ in
-    let typed = has-type 𝓤 H (𝓖 .A) (W 𝓤 H 𝓜 𝓖 𝓡 code.env) sums.sum in
+    let typed = has-type 𝓤 H (𝓖 .A) (W 𝓤 H 𝓜 𝓖 𝓡 code.env) adds.sum in
     let f : ℕ → Sum = λ d. cellsSum (t .tray) (cellAt (t .cells)) d in
     let first = cells-none (t .tray) (cellAt (t .cells)) in
     _ ⨟ no-sum-met ⨟ tt ⨟ (tt, tt) ⨟ refl ⨟ refl ⨟ λ is-s.
     tt ⨟ (tt, record { fits = lit< tt }) ⨟ Turn f 0 8 ⨟ Later f 0 8 ⨟ falls f 0 8
-    ⨟ (λ x. (t, none ∷ some (vptr b o) ∷ some (val sums.sum (f (x .c))) ∷ some (vint w64 (x .c)) ∷ []))
+    ⨟ (λ x. (t, none ∷ some (vptr b o) ∷ some (val adds.sum (f (x .c))) ∷ some (vint w64 (x .c)) ∷ []))
     ⨟ start f 0 8 (omega arith) first is-s ⨟ refl ⨟ (refl, (laid first, (refl, tt)))
     ⨟ (λ x. let d : ℕ = x .c in let n : ℕ = usedBy (t .tray .counts) (x .c) in let few : n ≤ 32 = used-few (t .tray .counts) (x .c) need in
     (tt ⨟ tt ⨟ (tt, tt) ⨟ apart ((λ yes. let h : x .c < 8 = ltb→lt (x .c) 8 yes in let is-d = count-is x h (omega arith) in

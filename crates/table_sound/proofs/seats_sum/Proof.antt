@@ -16,6 +16,8 @@ use Rattle.desk_sums.proofs.no_sum.Met as no-sum-thm
 use Rattle.desk_sums.proofs.no_sum.Symbol as no-sum
 use Rattle.desk_sums.proofs.slot_cell.Met as slot-thm
 use Rattle.desk_sums.proofs.slot_cell.Symbol as slot
+use Rattle.desk_sums.proofs.Sums as adds
+use Rattle.desk_sums.proofs.Sums.{Turn, Later, falls, start, count-is, count-fits, next, nearer, ended, laid}
 use Rattle.desk_sums.specs.declared.Sum.{Sum}
 use Rattle.desk_sums.specs.Rows.{seatsSum, seats-none, seats-next}
 use Rattle.desk_sums.specs.Sums.{slotCell}
@@ -32,7 +34,6 @@ use Rattle.walks.proofs.Lent.{calling, W}
 use Rattle.walks.proofs.Plain.{val, has-type}
 use Rattle.walks.proofs.Walk.{_⨟_, apart}
 use Rattle.table_sound.proofs.Sums as sums
-use Rattle.table_sound.proofs.Sums.{Turn, Later, falls, start, count-is, count-fits, next, nearer, ended, laid}
 use Rattle.table_sound.proofs.seats_sum.Code as code
 use Rattle.table_sound.proofs.seats_sum.Key as key
 use Rattle.table_sound.proofs.seats_sum.Statement.{statement}
@@ -44,18 +45,18 @@ seats-sum-spec 𝓤 H 𝓜 𝓖 𝓡 =
     refl (λ κ q b o γ t a is-a is need.
     let lends = lent 𝓤 H 𝓜 𝓖 𝓡 code.env parts.table in
     let values = valued 𝓤 H 𝓜 𝓖 𝓡 code.env parts.table in
-    let no-sum-met = values sums.no-sum no-sum.name no-sum.routine code.calls-desk-sums·no-sum (no-sum-thm.met 𝓤 H 𝓜 𝓖 𝓡) κ q b o γ in
+    let no-sum-met = values adds.no-sum no-sum.name no-sum.routine code.calls-desk-sums·no-sum (no-sum-thm.met 𝓤 H 𝓜 𝓖 𝓡) κ q b o γ in
     let counts-met = lends parts.counts counts.name counts.routine code.calls-table-parts·counts (counts-thm.met 𝓤 H 𝓜 𝓖 𝓡) κ q b o γ in
     let seat-of-met = lends parts.seat-of seat-of.name seat-of.routine code.calls-table-parts·seat-of (seat-of-thm.met 𝓤 H 𝓜 𝓖 𝓡) κ q b o γ in
-    let slot-met = values sums.slot-cell slot.name slot.routine code.calls-desk-sums·slot-cell (slot-thm.met 𝓤 H 𝓜 𝓖 𝓡) κ q b o γ in
+    let slot-met = values adds.slot-cell slot.name slot.routine code.calls-desk-sums·slot-cell (slot-thm.met 𝓤 H 𝓜 𝓖 𝓡) κ q b o γ in
     let place-met = lends parts.place place.name place.routine code.calls-table-parts·place (place-thm.met 𝓤 H 𝓜 𝓖 𝓡) κ q b o γ in
-    let add-met = values sums.add-seat-of add.name add.routine code.calls-desk-sums·add-seat-of (add-thm.met 𝓤 H 𝓜 𝓖 𝓡) κ q b o γ in
-    let typed = has-type 𝓤 H (𝓖 .A) (W 𝓤 H 𝓜 𝓖 𝓡 code.env) sums.sum in
+    let add-met = values adds.add-seat-of add.name add.routine code.calls-desk-sums·add-seat-of (add-thm.met 𝓤 H 𝓜 𝓖 𝓡) κ q b o γ in
+    let typed = has-type 𝓤 H (𝓖 .A) (W 𝓤 H 𝓜 𝓖 𝓡 code.env) adds.sum in
     let f : ℕ → Sum = λ d. seatsSum (t .tray) (seatOf t) d in
     let first = seats-none (t .tray) (seatOf t) in
     _ ⨟ no-sum-met ⨟ tt ⨟ (tt, tt) ⨟ refl ⨟ refl ⨟ λ is-s.
     tt ⨟ (tt, record { fits = lit< tt }) ⨟ Turn f 0 8 ⨟ Later f 0 8 ⨟ falls f 0 8
-    ⨟ (λ x. (t, none ∷ some (vptr b o) ∷ some (val sums.sum (f (x .c))) ∷ some (vint w64 (x .c)) ∷ []))
+    ⨟ (λ x. (t, none ∷ some (vptr b o) ∷ some (val adds.sum (f (x .c))) ∷ some (vint w64 (x .c)) ∷ []))
     ⨟ start f 0 8 (omega arith) first is-s ⨟ refl ⨟ (refl, (laid first, (refl, tt)))
     ⨟ (λ x. let d : ℕ = x .c in let v : Seat = seatOf t (x .c) in let c : ℕ = slotCell v in
     (tt ⨟ tt ⨟ (tt, tt) ⨟ apart ((λ yes. let h : x .c < 8 = ltb→lt (x .c) 8 yes in let is-d = count-is x h (omega arith) in

@@ -10,6 +10,7 @@ use Rattle.desk.specs.Sound.{traySound}
 use Rattle.desk.specs.SoundLaws.{tray-rule}
 use Rattle.desk_sums.proofs.sum_fits_in.Met as fits-in-thm
 use Rattle.desk_sums.proofs.sum_fits_in.Symbol as fits-in
+use Rattle.desk_sums.proofs.Sums as adds
 use Rattle.desk_sums.specs.declared.Sum.{Sum}
 use Rattle.desk_sums.specs.Rows.{cellsSum, seatsSum}
 use Rattle.desk_sums.specs.Sums.{sumFits}
@@ -21,7 +22,7 @@ use Rattle.table_parts.proofs.counts.Symbol as counts
 use Rattle.table_parts.proofs.tray.Met as tray-thm
 use Rattle.table_parts.proofs.tray.Symbol as tray
 use Rattle.table_sums.specs.Sums.{table-fits}
-use Rattle.walks.proofs.Branch.{is-false, is-not-false}
+use Rattle.walks.proofs.Branch.{is-false, un-not}
 use Rattle.walks.proofs.Callees.{lent, valued}
 use Rattle.walks.proofs.Lent.{calling}
 use Rattle.walks.proofs.Walk.{_⨟_, apart}
@@ -42,11 +43,11 @@ sound-spec 𝓤 H 𝓜 𝓖 𝓡 =
     let lends = lent 𝓤 H 𝓜 𝓖 𝓡 code.env parts.table in
     let values = valued 𝓤 H 𝓜 𝓖 𝓡 code.env parts.table in
     let tray-met = lends parts.tray tray.name tray.routine code.calls-table-parts·tray (tray-thm.met 𝓤 H 𝓜 𝓖 𝓡) κ q b o γ in
-    let sound-met = values sums.tray-sound sound.name sound.routine code.calls-desk·sound·tray-sound (sound-thm.met 𝓤 H 𝓜 𝓖 𝓡) κ q b o γ in
+    let sound-met = values adds.tray-sound sound.name sound.routine code.calls-desk·sound·tray-sound (sound-thm.met 𝓤 H 𝓜 𝓖 𝓡) κ q b o γ in
     let seats-met = lends sums.seats-sum seats.name seats.routine code.calls-table-sound·seats-sum (seats-thm.met 𝓤 H 𝓜 𝓖 𝓡) κ q b o γ in
     let cells-met = lends sums.cells-sum cells.name cells.routine code.calls-table-sound·cells-sum (cells-thm.met 𝓤 H 𝓜 𝓖 𝓡) κ q b o γ in
     let counts-met = lends parts.counts counts.name counts.routine code.calls-table-parts·counts (counts-thm.met 𝓤 H 𝓜 𝓖 𝓡) κ q b o γ in
-    let fits-met = values sums.sum-fits-in fits-in.name fits-in.routine code.calls-desk-sums·sum-fits-in (fits-in-thm.met 𝓤 H 𝓜 𝓖 𝓡) κ q b o γ in
+    let fits-met = values adds.sum-fits-in fits-in.name fits-in.routine code.calls-desk-sums·sum-fits-in (fits-in-thm.met 𝓤 H 𝓜 𝓖 𝓡) κ q b o γ in
     let all-seats : Sum = seatsSum (t .tray) (seatOf t) 8 in
     let all-cells : Sum = cellsSum (t .tray) (cellAt (t .cells)) 8 in
     let ok : Bool = traySound (t .tray) in
@@ -60,7 +61,7 @@ sound-spec 𝓤 H 𝓜 𝓖 𝓡 =
     (tt, tt) ⨟ _ ⨟ counts-met ⨟ tt ⨟ (tt, tt) ⨟ refl ⨟ refl ⨟ λ is-n.
     _ ⨟ fits-met ⨟ (all-seats, (t .tray .counts, tt)) ⨟ ((is-s, (is-n, tt)), tt) ⨟ refl ⨟ refl ⨟ λ _. tt ⨟ (tt, tt)
     ⨟ apart ((λ bad. ((tt, tt) ⨟ _ ⨟ refl ⨟ (ap vbool (sym (whole ∙ rw (is-false seats-fit bad) (and-false (ok && cells-fit)))), refl, refl, tt)))
-    ⨟ (λ fit. ((tt, tt) ⨟ _ ⨟ cells-met ⨟ tt ⨟ (tt, tray-rule (t .tray) (is-not-false ok good) .cells-most) ⨟ refl ⨟ refl ⨟ λ is-c.
+    ⨟ (λ fit. ((tt, tt) ⨟ _ ⨟ cells-met ⨟ tt ⨟ (tt, tray-rule (t .tray) (un-not ok good) .cells-most) ⨟ refl ⨟ refl ⨟ λ is-c.
     (tt, tt) ⨟ _ ⨟ counts-met ⨟ tt ⨟ (tt, tt) ⨟ refl ⨟ refl ⨟ λ is-n.
     _ ⨟ fits-met ⨟ (all-cells, (t .tray .counts, tt)) ⨟ ((is-c, (is-n, tt)), tt) ⨟ refl ⨟ refl ⨟ λ _.
-    _ ⨟ refl ⨟ (ap vbool (sym (whole ∙ rw (is-not-false ok good, is-not-false seats-fit fit) (and-true cells-fit))), refl, refl, tt))))))))
+    _ ⨟ refl ⨟ (ap vbool (sym (whole ∙ rw (un-not ok good, un-not seats-fit fit) (and-true cells-fit))), refl, refl, tt))))))))

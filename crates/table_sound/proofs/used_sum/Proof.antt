@@ -17,6 +17,8 @@ use Rattle.desk_sums.proofs.add_kept.Met as add-kept-thm
 use Rattle.desk_sums.proofs.add_kept.Symbol as add-kept
 use Rattle.desk_sums.proofs.keeps.Met as keeps-thm
 use Rattle.desk_sums.proofs.keeps.Symbol as keeps
+use Rattle.desk_sums.proofs.Sums as adds
+use Rattle.desk_sums.proofs.Sums.{Turn, Later, falls, start, count-is, count-fits, next, nearer, ended, laid}
 use Rattle.desk_sums.specs.declared.Sum.{Sum}
 use Rattle.desk_sums.specs.Rows.{usedSum, used-none, used-next}
 use Rattle.table_parts.proofs.Parts as parts
@@ -29,7 +31,6 @@ use Rattle.walks.proofs.Lent.{calling, W}
 use Rattle.walks.proofs.Plain.{val, has-type}
 use Rattle.walks.proofs.Walk.{_⨟_, apart}
 use Rattle.table_sound.proofs.Sums as sums
-use Rattle.table_sound.proofs.Sums.{Turn, Later, falls, start, count-is, count-fits, next, nearer, ended, laid}
 use Rattle.table_sound.proofs.used_sum.Code as code
 use Rattle.table_sound.proofs.used_sum.Key as key
 use Rattle.table_sound.proofs.used_sum.Statement.{statement}
@@ -45,8 +46,8 @@ used-sum-spec 𝓤 H 𝓜 𝓖 𝓡 =
     let keeps-met = values acts.keeps keeps.name keeps.routine code.calls-desk-sums·keeps (keeps-thm.met 𝓤 H 𝓜 𝓖 𝓡) κ q b o γ in
     let at-met = values acts.at at.name at.routine code.calls-desk-acts·at (at-thm.met 𝓤 H 𝓜 𝓖 𝓡) κ q b o γ in
     let cell-met = lends parts.cell-at cell-at.name cell-at.routine code.calls-table-parts·cell-at (cell-at-thm.met 𝓤 H 𝓜 𝓖 𝓡) κ q b o γ in
-    let add-met = values sums.add-kept add-kept.name add-kept.routine code.calls-desk-sums·add-kept (add-kept-thm.met 𝓤 H 𝓜 𝓖 𝓡) κ q b o γ in
-    let typed = has-type 𝓤 H (𝓖 .A) (W 𝓤 H 𝓜 𝓖 𝓡 code.env) sums.sum in
+    let add-met = values adds.add-kept add-kept.name add-kept.routine code.calls-desk-sums·add-kept (add-kept-thm.met 𝓤 H 𝓜 𝓖 𝓡) κ q b o γ in
+    let typed = has-type 𝓤 H (𝓖 .A) (W 𝓤 H 𝓜 𝓖 𝓡 code.env) adds.sum in
     let d : ℕ = a .0 in let n : ℕ = a .1 .0 in let s : Sum = a .1 .1 .0 in let is-d = is-a .0 in let is-s = is-a .1 .1 .0 in
     let few : n ≤ 32 = need .1 in
     let cell : ℕ → Cell = λ c. cellAt (t .cells) (d * 32 + c) in
@@ -56,7 +57,7 @@ used-sum-spec 𝓤 H 𝓜 𝓖 𝓡 =
     ⨟ (λ x. (
       t,
       none ∷ some (vptr b o) ∷ some (vint w64 d) ∷ some (vint w64 n) ∷ none
-          ∷ some (val sums.sum (f (x .c))) ∷ some (vint w64 (x .c)) ∷ [],
+          ∷ some (val adds.sum (f (x .c))) ∷ some (vint w64 (x .c)) ∷ [],
     ))
     ⨟ start f 0 n (omega arith) first is-s ⨟ refl ⨟ (refl, (refl, (refl, (laid first, (refl, tt)))))
     ⨟ (λ x. let c : ℕ = x .c in
