@@ -20,6 +20,7 @@ pub is-false : (b : Bool) → T (not b) → b ≡ false
 is-false true h = absurd h
 is-false false h = refl
 
-pub is-not-false : (b : Bool) → T (not (not b)) → b ≡ true
-is-not-false true h = refl
-is-not-false false h = absurd h
+-- the other arm of `if !b`, and of `if n != m`
+pub un-not : (b : Bool) → T (not (not b)) → b ≡ true
+un-not true h = refl
+un-not false h = absurd h

@@ -22,7 +22,7 @@ use Rattle.table_parts.proofs.counts.Symbol as counts
 use Rattle.table_parts.proofs.tray.Met as tray-thm
 use Rattle.table_parts.proofs.tray.Symbol as tray
 use Rattle.table_sums.specs.Sums.{table-fits}
-use Rattle.walks.proofs.Branch.{is-false, is-not-false}
+use Rattle.walks.proofs.Branch.{is-false, un-not}
 use Rattle.walks.proofs.Callees.{lent, valued}
 use Rattle.walks.proofs.Lent.{calling}
 use Rattle.walks.proofs.Walk.{_⨟_, apart}
@@ -61,7 +61,7 @@ sound-spec 𝓤 H 𝓜 𝓖 𝓡 =
     (tt, tt) ⨟ _ ⨟ counts-met ⨟ tt ⨟ (tt, tt) ⨟ refl ⨟ refl ⨟ λ is-n.
     _ ⨟ fits-met ⨟ (all-seats, (t .tray .counts, tt)) ⨟ ((is-s, (is-n, tt)), tt) ⨟ refl ⨟ refl ⨟ λ _. tt ⨟ (tt, tt)
     ⨟ apart ((λ bad. ((tt, tt) ⨟ _ ⨟ refl ⨟ (ap vbool (sym (whole ∙ rw (is-false seats-fit bad) (and-false (ok && cells-fit)))), refl, refl, tt)))
-    ⨟ (λ fit. ((tt, tt) ⨟ _ ⨟ cells-met ⨟ tt ⨟ (tt, tray-rule (t .tray) (is-not-false ok good) .cells-most) ⨟ refl ⨟ refl ⨟ λ is-c.
+    ⨟ (λ fit. ((tt, tt) ⨟ _ ⨟ cells-met ⨟ tt ⨟ (tt, tray-rule (t .tray) (un-not ok good) .cells-most) ⨟ refl ⨟ refl ⨟ λ is-c.
     (tt, tt) ⨟ _ ⨟ counts-met ⨟ tt ⨟ (tt, tt) ⨟ refl ⨟ refl ⨟ λ is-n.
     _ ⨟ fits-met ⨟ (all-cells, (t .tray .counts, tt)) ⨟ ((is-c, (is-n, tt)), tt) ⨟ refl ⨟ refl ⨟ λ _.
-    _ ⨟ refl ⨟ (ap vbool (sym (whole ∙ rw (is-not-false ok good, is-not-false seats-fit fit) (and-true cells-fit))), refl, refl, tt))))))))
+    _ ⨟ refl ⨟ (ap vbool (sym (whole ∙ rw (un-not ok good, un-not seats-fit fit) (and-true cells-fit))), refl, refl, tt))))))))

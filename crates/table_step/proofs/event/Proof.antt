@@ -19,7 +19,7 @@ use Rattle.table_step.proofs.event.Key as key
 use Rattle.table_step.proofs.event.Statement.{statement}
 use Rattle.table_step.proofs.step.Met as step-thm
 use Rattle.table_step.proofs.step.Symbol as step
-use Rattle.walks.proofs.Branch.{is-false, is-not-false}
+use Rattle.walks.proofs.Branch.{is-false, un-not}
 use Rattle.walks.proofs.Callees.{lent, valued}
 use Rattle.walks.proofs.Lent.{calling}
 use Rattle.walks.proofs.Plain.{IsOf, val}
@@ -43,5 +43,5 @@ event-spec 𝓤 H 𝓜 𝓖 𝓡 =
     (_ ⨟ refused-met ⨟ (9, tt) ⨟ (((refl, lit< tt), tt), tt) ⨟ tt ⨟ refl ⨟ refl ⨟ λ is-r.
     _ ⨟ refl ⨟ (ap (val acts.reply) reply, subst (IsOf acts.reply) reply is-r, ap (λ (o : Outcome). o .after) same, tt)))
     ⨟ (λ good.
-    ((tt, tt) ⨟ _ ⨟ step-met ⨟ (e, tt) ⨟ ((is-e, tt), is-not-false (tableSound t) good) ⨟ refl ⨟ refl ⨟ λ is-r.
+    ((tt, tt) ⨟ _ ⨟ step-met ⨟ (e, tt) ⨟ ((is-e, tt), un-not (tableSound t) good) ⨟ refl ⨟ refl ⨟ λ is-r.
     _ ⨟ refl ⨟ (refl, is-r, refl, tt)))))
