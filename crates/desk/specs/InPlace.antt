@@ -1,7 +1,7 @@
 -- The desk's steps as the code does them where its record lies: cell by cell, and its seat. Each is the rule, for what is not refused.
 -- Assumes nothing.
 use mathlib.Core.Path.{_≡_, refl, sym, ap, _∙_}
-use mathlib.Core.Bool.{Bool, true, false, _&&_, not, cond}
+use mathlib.Core.Bool.{Bool, true, false, not, cond}
 use mathlib.Core.Logic.{⊎-elim}
 use Prim.Native.Nat.{ℕ, _+_, _≤_, _<_}
 use native.Mathlib.Nat.{add-zero, zero-add}
@@ -9,7 +9,7 @@ use native.Mathlib.Numerals.{add-one}
 use native.Mathlib.Omega.{arith}
 use borrow.Author.Tests.{eqb-true, eqb-false, eq-eqb, ne-eqb, lt-ltb}
 use lib.Dec.{T, eqb}
-use lib.ListN.{length, set, length-set}
+use lib.ListN.{length, length-set}
 use lib.Seq.{getD-set-same}
 use Rattle.clock.specs.declared.Clock.{Clock}
 use Rattle.theory_lists.specs.Each.{length-mapAt}
@@ -25,11 +25,12 @@ use Rattle.desk.specs.declared.Seat.{Seat}
 use Rattle.desk.specs.declared.Step.{Step}
 use Rattle.desk.specs.Desk.{Word, noCell, pastCell, cellAt, placeAt, keptBy, keeps, heldCell, isCopy, isLost, leftAt, leftOf, lossOf}
 use Rattle.desk.specs.Kept.{holds-row, no-cell-rule}
-use Rattle.desk.specs.Parts.{changeOf, askedFor, askingSeat, raisedSeat, readReply, writeReply, ownReply, tookSeat, homeSeat, broughtCell, losesIf}
-use Rattle.desk.specs.Parts.{eventCode, serveCode, bringCode, inTray, requestFits, answerFits}
+use Rattle.desk.specs.Parts.{changeOf, askedFor, askingSeat, raisedSeat, readReply, writeReply, ownReply, tookSeat, homeSeat}
+use Rattle.desk.specs.Parts.{broughtCell, losesIf, eventCode, serveCode, bringCode, inTray, requestFits, answerFits}
 use Rattle.desk.specs.Parts.{refusedAnswer, askedMessage, ownAnswer, servedAnswer, broughtAnswer}
-use Rattle.desk.specs.RuleLaws.{Allowed, allowed, Served, served, Brought, brought, own-is, event-place, serve-place, bring-place}
-use Rattle.desk.specs.Rules.{withSeat, withRow, holds, answerOf, refused, readRule, writeRule, dropRule, eventLines, eventRefusal, eventDone, eventRule}
+use Rattle.desk.specs.RuleLaws.{Allowed, allowed, Served, served, Brought, brought, own-is, serve-place}
+use Rattle.desk.specs.Rules.{withSeat, withRow, holds, answerOf, refused}
+use Rattle.desk.specs.Rules.{readRule, writeRule, dropRule, eventLines, eventRefusal, eventDone, eventRule}
 use Rattle.desk.specs.Rules.{ofTray, fitsServe, serveLines, serveRefusal, readServed, takes, writeServed, serveDone, serveRule}
 use Rattle.desk.specs.Rules.{fitsBring, bringLines, bringRefusal, brings, bringDone, bringRule}
 use Rattle.desk.specs.Sound.{isSound}

@@ -24,7 +24,7 @@ use Rattle.desk.specs.Rules.{refusedReply, seatLines}
 use Rattle.desk_parts.proofs.Parts.{cell, spot, counts, tray, seat}
 use Rattle.theory_refusals.specs.Refusals.{firstOf}
 use Rattle.walks.proofs.Lent.{PlainFn, Pre, always, where-holds}
-use Rattle.walks.proofs.Plain.{Plain, Of, Args, Form, form, number, boolean, struct}
+use Rattle.walks.proofs.Plain.{Plain, Of, Args, form, number, boolean, struct}
 
 -- ---- the types
 abbrev pub clock : Plain

@@ -1,10 +1,10 @@
 // A desk's three steps where its record lies: a step names the cells that it touches, and nothing large is copied.
-ghost use mathlib.Core.Bool.{true};
 ghost use mathlib.Core.Path.{_≡_};
 ghost use Prim.Native.Nat.{_<_, _≤_};
 ghost use Rattle.desk.specs.Desk.{cellAt, placeAt};
 ghost use Rattle.desk.specs.InPlace.{lostIn, lossIn, storeIn, takeIn};
-ghost use Rattle.desk.specs.Rules.{answerOf, eventRefusal, eventDone, eventRule, serveRefusal, serveDone, serveRule, bringRefusal, bringDone, bringRule};
+ghost use Rattle.desk.specs.Rules.{answerOf, eventRefusal, eventDone, eventRule, serveRefusal, serveDone, serveRule};
+ghost use Rattle.desk.specs.Rules.{bringRefusal, bringDone, bringRule};
 ghost use Rattle.desk.specs.Sound.{isSound};
 ghost use Rattle.desk_sums.specs.Rows.{usedSum, pastSum};
 ghost use Rattle.desk_sums.specs.Sums.{noSum};

@@ -42,15 +42,18 @@ event-spec 𝓤 H 𝓜 𝓖 𝓡 =
     let own-tray-met = does parts.own-tray own-tray.name own-tray.routine code.calls-desk-parts·own-tray (own-tray-thm.met 𝓤 H 𝓜 𝓖 𝓡) κ q b o γ in
     let own-desk-met = does parts.own-desk own-desk.name own-desk.routine code.calls-desk-parts·own-desk (own-desk-thm.met 𝓤 H 𝓜 𝓖 𝓡) κ q b o γ in
     let own-seat-met = does parts.own-seat own-seat.name own-seat.routine code.calls-desk-parts·own-seat (own-seat-thm.met 𝓤 H 𝓜 𝓖 𝓡) κ q b o γ in
-    let event-code-met = knows steps.event-code event-code.name event-code.routine code.calls-desk-step·codes·event-code (event-code-thm.met 𝓤 H 𝓜 𝓖 𝓡) κ q b o γ in
-    let refused-answer-met = knows acts.refused-answer refused-answer.name refused-answer.routine code.calls-desk-acts·refused-answer (refused-answer-thm.met 𝓤 H 𝓜 𝓖 𝓡) κ q b o γ in
+    let event-code-met = knows steps.event-code event-code.name event-code.routine code.calls-desk-step·codes·event-code
+    (event-code-thm.met 𝓤 H 𝓜 𝓖 𝓡) κ q b o γ in
+    let refused-answer-met = knows acts.refused-answer refused-answer.name refused-answer.routine code.calls-desk-acts·refused-answer
+    (refused-answer-thm.met 𝓤 H 𝓜 𝓖 𝓡) κ q b o γ in
     let own-met = does steps.own own.name own.routine code.calls-desk-step·own (own-thm.met 𝓤 H 𝓜 𝓖 𝓡) κ q b o γ in
     let x = a .0 in let is-x = is-a .0 in let n = eventCode (isSound t) (t .tray) (t .desk) (t .seat) x in let turn = turns t x in
     (tt, tt) ⨟ _ ⨟ sound-met ⨟ tt ⨟ (tt, tt) ⨟ refl ⨟ refl ⨟ λ is-ok. (tt, tt)
     ⨟ _ ⨟ own-tray-met ⨟ tt ⨟ (tt, tt) ⨟ refl ⨟ refl ⨟ λ is-t. (tt, tt)
     ⨟ _ ⨟ own-desk-met ⨟ tt ⨟ (tt, tt) ⨟ refl ⨟ refl ⨟ λ is-d. (tt, tt)
     ⨟ _ ⨟ own-seat-met ⨟ tt ⨟ (tt, tt) ⨟ refl ⨟ refl ⨟ λ is-s.
-    _ ⨟ event-code-met ⨟ (isSound t, (t .tray, (t .desk, (t .seat, (x, tt))))) ⨟ ((is-ok, (is-t, (is-d, (is-s, (is-x, tt))))), (λ ok. (desk-below t ok, sound-rule t ok .tray-is .cells-most))) ⨟ refl ⨟ refl ⨟ λ is-n.
+    _ ⨟ event-code-met ⨟ (isSound t, (t .tray, (t .desk, (t .seat, (x, tt)))))
+    ⨟ ((is-ok, (is-t, (is-d, (is-s, (is-x, tt))))), (λ ok. (desk-below t ok, sound-rule t ok .tray-is .cells-most))) ⨟ refl ⨟ refl ⨟ λ is-n.
     tt ⨟ tt ⨟ (tt, tt)
     ⨟ apart ((λ yes. let same = turn .refuses yes in
     (_ ⨟ refused-answer-met ⨟ (n, tt) ⨟ ((is-n, tt), tt) ⨟ refl ⨟ refl ⨟ λ is-r.

@@ -57,11 +57,15 @@ lose-spec 𝓤 H 𝓜 𝓖 𝓡 =
     calling 𝓤 H 𝓜 𝓖 𝓡 code.env parts.desk-record steps.lose key.name code.function (code.unfolded 𝓤 H 𝓜 𝓡) refl
     (λ κ q b o γ t a is-a is need.
     let own-desk-met = does parts.own-desk own-desk.name own-desk.routine code.calls-desk-parts·own-desk (own-desk-thm.met 𝓤 H 𝓜 𝓖 𝓡) κ q b o γ in
-    let own-counts-met = does parts.own-counts own-counts.name own-counts.routine code.calls-desk-parts·own-counts (own-counts-thm.met 𝓤 H 𝓜 𝓖 𝓡) κ q b o γ in
-    let own-place-met = does parts.own-place own-place.name own-place.routine code.calls-desk-parts·own-place (own-place-thm.met 𝓤 H 𝓜 𝓖 𝓡) κ q b o γ in
+    let own-counts-met = does parts.own-counts own-counts.name own-counts.routine code.calls-desk-parts·own-counts
+    (own-counts-thm.met 𝓤 H 𝓜 𝓖 𝓡) κ q b o γ in
+    let own-place-met = does parts.own-place own-place.name own-place.routine code.calls-desk-parts·own-place
+    (own-place-thm.met 𝓤 H 𝓜 𝓖 𝓡) κ q b o γ in
     let own-cell-met = does parts.own-cell own-cell.name own-cell.routine code.calls-desk-parts·own-cell (own-cell-thm.met 𝓤 H 𝓜 𝓖 𝓡) κ q b o γ in
-    let clear-own-met = does parts.clear-own clear-own.name clear-own.routine code.calls-desk-parts·clear-own (clear-own-thm.met 𝓤 H 𝓜 𝓖 𝓡) κ q b o γ in
-    let desk-index-met = knows acts.desk-index desk-index.name desk-index.routine code.calls-desk-acts·desk-index (desk-index-thm.met 𝓤 H 𝓜 𝓖 𝓡) κ q b o γ in
+    let clear-own-met = does parts.clear-own clear-own.name clear-own.routine code.calls-desk-parts·clear-own
+    (clear-own-thm.met 𝓤 H 𝓜 𝓖 𝓡) κ q b o γ in
+    let desk-index-met = knows acts.desk-index desk-index.name desk-index.routine code.calls-desk-acts·desk-index
+    (desk-index-thm.met 𝓤 H 𝓜 𝓖 𝓡) κ q b o γ in
     let cells-of-met = knows acts.cells-of cells-of.name cells-of.routine code.calls-desk-acts·cells-of (cells-of-thm.met 𝓤 H 𝓜 𝓖 𝓡) κ q b o γ in
     let keeps-met = knows acts.keeps keeps.name keeps.routine code.calls-desk-sums·keeps (keeps-thm.met 𝓤 H 𝓜 𝓖 𝓡) κ q b o γ in
     let is-lost-met = knows acts.is-lost is-lost.name is-lost.routine code.calls-desk-acts·is-lost (is-lost-thm.met 𝓤 H 𝓜 𝓖 𝓡) κ q b o γ in

@@ -67,21 +67,29 @@ own-spec 𝓤 H 𝓜 𝓖 𝓡 =
     let own-desk-met = does parts.own-desk own-desk.name own-desk.routine code.calls-desk-parts·own-desk (own-desk-thm.met 𝓤 H 𝓜 𝓖 𝓡) κ q b o γ in
     let own-seat-met = does parts.own-seat own-seat.name own-seat.routine code.calls-desk-parts·own-seat (own-seat-thm.met 𝓤 H 𝓜 𝓖 𝓡) κ q b o γ in
     let own-cell-met = does parts.own-cell own-cell.name own-cell.routine code.calls-desk-parts·own-cell (own-cell-thm.met 𝓤 H 𝓜 𝓖 𝓡) κ q b o γ in
-    let own-place-met = does parts.own-place own-place.name own-place.routine code.calls-desk-parts·own-place (own-place-thm.met 𝓤 H 𝓜 𝓖 𝓡) κ q b o γ in
-    let own-counts-met = does parts.own-counts own-counts.name own-counts.routine code.calls-desk-parts·own-counts (own-counts-thm.met 𝓤 H 𝓜 𝓖 𝓡) κ q b o γ in
-    let put-own-seat-met = does parts.put-own-seat put-own-seat.name put-own-seat.routine code.calls-desk-parts·put-own-seat (put-own-seat-thm.met 𝓤 H 𝓜 𝓖 𝓡) κ q b o γ in
-    let clear-own-met = does parts.clear-own clear-own.name clear-own.routine code.calls-desk-parts·clear-own (clear-own-thm.met 𝓤 H 𝓜 𝓖 𝓡) κ q b o γ in
+    let own-place-met = does parts.own-place own-place.name own-place.routine code.calls-desk-parts·own-place
+    (own-place-thm.met 𝓤 H 𝓜 𝓖 𝓡) κ q b o γ in
+    let own-counts-met = does parts.own-counts own-counts.name own-counts.routine code.calls-desk-parts·own-counts
+    (own-counts-thm.met 𝓤 H 𝓜 𝓖 𝓡) κ q b o γ in
+    let put-own-seat-met = does parts.put-own-seat put-own-seat.name put-own-seat.routine code.calls-desk-parts·put-own-seat
+    (put-own-seat-thm.met 𝓤 H 𝓜 𝓖 𝓡) κ q b o γ in
+    let clear-own-met = does parts.clear-own clear-own.name clear-own.routine code.calls-desk-parts·clear-own
+    (clear-own-thm.met 𝓤 H 𝓜 𝓖 𝓡) κ q b o γ in
     let store-met = does steps.store store.name store.routine code.calls-desk-step·store (store-thm.met 𝓤 H 𝓜 𝓖 𝓡) κ q b o γ in
-    let desk-index-met = knows acts.desk-index desk-index.name desk-index.routine code.calls-desk-acts·desk-index (desk-index-thm.met 𝓤 H 𝓜 𝓖 𝓡) κ q b o γ in
+    let desk-index-met = knows acts.desk-index desk-index.name desk-index.routine code.calls-desk-acts·desk-index
+    (desk-index-thm.met 𝓤 H 𝓜 𝓖 𝓡) κ q b o γ in
     let cell-of-met = knows acts.cell-of cell-of.name cell-of.routine code.calls-desk-acts·cell-of (cell-of-thm.met 𝓤 H 𝓜 𝓖 𝓡) κ q b o γ in
     let keeps-met = knows acts.keeps keeps.name keeps.routine code.calls-desk-sums·keeps (keeps-thm.met 𝓤 H 𝓜 𝓖 𝓡) κ q b o γ in
-    let change-of-met = knows acts.change-of change-of.name change-of.routine code.calls-desk-acts·change-of (change-of-thm.met 𝓤 H 𝓜 𝓖 𝓡) κ q b o γ in
+    let change-of-met = knows acts.change-of change-of.name change-of.routine code.calls-desk-acts·change-of
+    (change-of-thm.met 𝓤 H 𝓜 𝓖 𝓡) κ q b o γ in
     let asking-met = knows acts.asking asking.name asking.routine code.calls-desk-acts·asking (asking-thm.met 𝓤 H 𝓜 𝓖 𝓡) κ q b o γ in
     let raising-met = knows acts.raising raising.name raising.routine code.calls-desk-acts·raising (raising-thm.met 𝓤 H 𝓜 𝓖 𝓡) κ q b o γ in
     let new-word-met = knows acts.new-word new-word.name new-word.routine code.calls-desk-acts·new-word (new-word-thm.met 𝓤 H 𝓜 𝓖 𝓡) κ q b o γ in
-    let own-answer-met = knows acts.own-answer own-answer.name own-answer.routine code.calls-desk-acts·own-answer (own-answer-thm.met 𝓤 H 𝓜 𝓖 𝓡) κ q b o γ in
+    let own-answer-met = knows acts.own-answer own-answer.name own-answer.routine code.calls-desk-acts·own-answer
+    (own-answer-thm.met 𝓤 H 𝓜 𝓖 𝓡) κ q b o γ in
     let e = a .0 in let is-e = is-a .0 in let d : ℕ = t .desk in let c : ℕ = e .cell in let s = t .seat in let x = namedBy t e in
-    let kept = keptHere t e in let ch : ℕ = changeIn t e in let ok = allowed t e need in let small = desk-below t (ok .sound) in let below = event-place t e need in
+    let kept = keptHere t e in let ch : ℕ = changeIn t e in
+    let ok = allowed t e need in let small = desk-below t (ok .sound) in let below = event-place t e need in
     let asked = withSeat t (askingSeat s d e) in let u₁ = askedIn t e in
     let stored = storeIn u₁ c (raisedSeat s d) (e .word) in let u₂ = storedIn t e in let u₃ = ownIn t e in let same = own-in t e need in
     (tt, tt) ⨟ _ ⨟ own-desk-met ⨟ tt ⨟ (tt, tt) ⨟ refl ⨟ refl ⨟ λ is-b.
@@ -98,7 +106,8 @@ own-spec 𝓤 H 𝓜 𝓖 𝓡 =
           ∷ some (val parts.cell x) ∷ some (vbool kept) ∷ some (vint w8 ch) ∷ [],
     ))
     ⨟ (λ yes. ((tt, tt) ⨟ _ ⨟ asking-met ⨟ (s, (d, (e, tt)))
-    ⨟ ((is-s, (is-d, (is-e, tt))), (small, below, ok .seat .below, change-asks kept x e (eqb-true ch 1 (is-true (eqb ch 1) yes)))) ⨟ refl ⨟ refl ⨟ λ is-q.
+    ⨟ ((is-s, (is-d, (is-e, tt))), (small, below, ok .seat .below, change-asks kept x e (eqb-true ch 1 (is-true (eqb ch 1) yes))))
+    ⨟ refl ⨟ refl ⨟ λ is-q.
     _ ⨟ put-own-seat-met ⨟ (askingSeat s d e, tt) ⨟ ((is-q, tt), tt) ⨟ refl ⨟ refl ⨟ λ _.
     (tt, sym (if-yes (eqb ch 1) asked t yes), (refl, (refl, (refl, (refl, (refl, (refl, (refl, (refl, (refl, tt))))))))), tt)))
     ⨟ (λ no. (tt, sym (if-no (eqb ch 1) asked t no), (refl, (refl, (refl, (refl, (refl, (refl, (refl, (refl, (refl, tt))))))))), tt))
@@ -125,5 +134,6 @@ own-spec 𝓤 H 𝓜 𝓖 𝓡 =
     ⨟ (λ no. (tt, sym (if-no (eqb ch 3) (holds u₂ c noCell) u₂ no), (refl, (refl, (refl, (refl, (refl, (refl, (refl, (refl, (refl, tt))))))))), tt))
     ⨟ (λ _. ((tt, tt) ⨟ _ ⨟ own-counts-met ⨟ tt ⨟ (tt, tt) ⨟ refl ⨟ refl ⨟ λ is-n. (tt, tt)
     ⨟ _ ⨟ own-seat-met ⨟ tt ⨟ (tt, tt) ⨟ refl ⨟ refl ⨟ λ is-u.
-    _ ⨟ own-answer-met ⨟ (kept, (x, (e, (u₃ .tray .counts, (d, (u₃ .seat, tt)))))) ⨟ ((is-k, (is-x, (is-e, (is-n, (is-b, (is-u, tt)))))), tt) ⨟ refl ⨟ refl ⨟ λ is-r.
+    _ ⨟ own-answer-met ⨟ (kept, (x, (e, (u₃ .tray .counts, (d, (u₃ .seat, tt))))))
+    ⨟ ((is-k, (is-x, (is-e, (is-n, (is-b, (is-u, tt)))))), tt) ⨟ refl ⨟ refl ⨟ λ is-r.
     _ ⨟ refl ⨟ (ap (val acts.answer) (same .0), subst (IsOf acts.answer) (same .0) is-r, same .1, tt)))))))))))

@@ -42,7 +42,8 @@ own-used-spec 𝓤 H 𝓜 𝓖 𝓡 =
     let knows = valued 𝓤 H 𝓜 𝓖 𝓡 code.env parts.desk-record in
     calling 𝓤 H 𝓜 𝓖 𝓡 code.env parts.desk-record steps.own-used key.name code.function (code.unfolded 𝓤 H 𝓜 𝓡) refl
     (λ κ q b o γ t a is-a is need.
-    let own-place-met = does parts.own-place own-place.name own-place.routine code.calls-desk-parts·own-place (own-place-thm.met 𝓤 H 𝓜 𝓖 𝓡) κ q b o γ in
+    let own-place-met = does parts.own-place own-place.name own-place.routine code.calls-desk-parts·own-place
+    (own-place-thm.met 𝓤 H 𝓜 𝓖 𝓡) κ q b o γ in
     let own-cell-met = does parts.own-cell own-cell.name own-cell.routine code.calls-desk-parts·own-cell (own-cell-thm.met 𝓤 H 𝓜 𝓖 𝓡) κ q b o γ in
     let no-sum-met = knows adds.no-sum no-sum.name no-sum.routine code.calls-desk-sums·no-sum (no-sum-thm.met 𝓤 H 𝓜 𝓖 𝓡) κ q b o γ in
     let keeps-met = knows acts.keeps keeps.name keeps.routine code.calls-desk-sums·keeps (keeps-thm.met 𝓤 H 𝓜 𝓖 𝓡) κ q b o γ in

@@ -46,15 +46,21 @@ receive-spec 𝓤 H 𝓜 𝓖 𝓡 =
     calling 𝓤 H 𝓜 𝓖 𝓡 code.env parts.desk-record steps.receive key.name code.function (code.unfolded 𝓤 H 𝓜 𝓡) refl
     (λ κ q b o γ t a is-a is need.
     let own-seat-met = does parts.own-seat own-seat.name own-seat.routine code.calls-desk-parts·own-seat (own-seat-thm.met 𝓤 H 𝓜 𝓖 𝓡) κ q b o γ in
-    let clear-own-met = does parts.clear-own clear-own.name clear-own.routine code.calls-desk-parts·clear-own (clear-own-thm.met 𝓤 H 𝓜 𝓖 𝓡) κ q b o γ in
+    let clear-own-met = does parts.clear-own clear-own.name clear-own.routine code.calls-desk-parts·clear-own
+    (clear-own-thm.met 𝓤 H 𝓜 𝓖 𝓡) κ q b o γ in
     let put-own-met = does parts.put-own put-own.name put-own.routine code.calls-desk-parts·put-own (put-own-thm.met 𝓤 H 𝓜 𝓖 𝓡) κ q b o γ in
-    let put-own-seat-met = does parts.put-own-seat put-own-seat.name put-own-seat.routine code.calls-desk-parts·put-own-seat (put-own-seat-thm.met 𝓤 H 𝓜 𝓖 𝓡) κ q b o γ in
+    let put-own-seat-met = does parts.put-own-seat put-own-seat.name put-own-seat.routine code.calls-desk-parts·put-own-seat
+    (put-own-seat-thm.met 𝓤 H 𝓜 𝓖 𝓡) κ q b o γ in
     let lose-met = does steps.lose lose.name lose.routine code.calls-desk-step·lose (lose-thm.met 𝓤 H 𝓜 𝓖 𝓡) κ q b o γ in
-    let named-cell-met = knows acts.named-cell named-cell.name named-cell.routine code.calls-desk-acts·named-cell (named-cell-thm.met 𝓤 H 𝓜 𝓖 𝓡) κ q b o γ in
-    let sent-clock-met = knows acts.sent-clock sent-clock.name sent-clock.routine code.calls-desk-acts·sent-clock (sent-clock-thm.met 𝓤 H 𝓜 𝓖 𝓡) κ q b o γ in
-    let brought-by-met = knows acts.brought-by brought-by.name brought-by.routine code.calls-desk-acts·brought-by (brought-by-thm.met 𝓤 H 𝓜 𝓖 𝓡) κ q b o γ in
+    let named-cell-met = knows acts.named-cell named-cell.name named-cell.routine code.calls-desk-acts·named-cell
+    (named-cell-thm.met 𝓤 H 𝓜 𝓖 𝓡) κ q b o γ in
+    let sent-clock-met = knows acts.sent-clock sent-clock.name sent-clock.routine code.calls-desk-acts·sent-clock
+    (sent-clock-thm.met 𝓤 H 𝓜 𝓖 𝓡) κ q b o γ in
+    let brought-by-met = knows acts.brought-by brought-by.name brought-by.routine code.calls-desk-acts·brought-by
+    (brought-by-thm.met 𝓤 H 𝓜 𝓖 𝓡) κ q b o γ in
     let home-met = knows acts.home home.name home.routine code.calls-desk-acts·home (home-thm.met 𝓤 H 𝓜 𝓖 𝓡) κ q b o γ in
-    let brought-answer-met = knows acts.brought-answer brought-answer.name brought-answer.routine code.calls-desk-acts·brought-answer (brought-answer-thm.met 𝓤 H 𝓜 𝓖 𝓡) κ q b o γ in
+    let brought-answer-met = knows acts.brought-answer brought-answer.name brought-answer.routine code.calls-desk-acts·brought-answer
+    (brought-answer-thm.met 𝓤 H 𝓜 𝓖 𝓡) κ q b o γ in
     let m = a .0 in let is-m = is-a .0 in let s = t .seat in let c : ℕ = m .cell in let stamp = m .clock in
     let below = bring-place t m need in let few = sound-rule t (brought t m need .sound) .tray-is .cells-most in
     let n : ℕ = lossIn (without t m) stamp in let same = bring-in t (row-long t is) m need in

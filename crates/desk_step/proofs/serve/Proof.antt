@@ -38,14 +38,17 @@ serve-spec 𝓤 H 𝓜 𝓖 𝓡 =
     let sound-met = does steps.sound sound.name sound.routine code.calls-desk-step·sound (sound-thm.met 𝓤 H 𝓜 𝓖 𝓡) κ q b o γ in
     let own-tray-met = does parts.own-tray own-tray.name own-tray.routine code.calls-desk-parts·own-tray (own-tray-thm.met 𝓤 H 𝓜 𝓖 𝓡) κ q b o γ in
     let own-desk-met = does parts.own-desk own-desk.name own-desk.routine code.calls-desk-parts·own-desk (own-desk-thm.met 𝓤 H 𝓜 𝓖 𝓡) κ q b o γ in
-    let serve-code-met = knows steps.serve-code serve-code.name serve-code.routine code.calls-desk-step·codes·serve-code (serve-code-thm.met 𝓤 H 𝓜 𝓖 𝓡) κ q b o γ in
-    let refused-answer-met = knows acts.refused-answer refused-answer.name refused-answer.routine code.calls-desk-acts·refused-answer (refused-answer-thm.met 𝓤 H 𝓜 𝓖 𝓡) κ q b o γ in
+    let serve-code-met = knows steps.serve-code serve-code.name serve-code.routine code.calls-desk-step·codes·serve-code
+    (serve-code-thm.met 𝓤 H 𝓜 𝓖 𝓡) κ q b o γ in
+    let refused-answer-met = knows acts.refused-answer refused-answer.name refused-answer.routine code.calls-desk-acts·refused-answer
+    (refused-answer-thm.met 𝓤 H 𝓜 𝓖 𝓡) κ q b o γ in
     let take-met = does steps.take take.name take.routine code.calls-desk-step·take (take-thm.met 𝓤 H 𝓜 𝓖 𝓡) κ q b o γ in
     let x = a .0 in let is-x = is-a .0 in let n = serveCode (isSound t) (t .tray) (t .desk) x in let turn = turns t x in
     (tt, tt) ⨟ _ ⨟ sound-met ⨟ tt ⨟ (tt, tt) ⨟ refl ⨟ refl ⨟ λ is-ok. (tt, tt)
     ⨟ _ ⨟ own-tray-met ⨟ tt ⨟ (tt, tt) ⨟ refl ⨟ refl ⨟ λ is-t. (tt, tt)
     ⨟ _ ⨟ own-desk-met ⨟ tt ⨟ (tt, tt) ⨟ refl ⨟ refl ⨟ λ is-d.
-    _ ⨟ serve-code-met ⨟ (isSound t, (t .tray, (t .desk, (x, tt)))) ⨟ ((is-ok, (is-t, (is-d, (is-x, tt)))), (λ ok. sound-rule t ok .tray-is .cells-most)) ⨟ refl ⨟ refl ⨟ λ is-n.
+    _ ⨟ serve-code-met ⨟ (isSound t, (t .tray, (t .desk, (x, tt))))
+    ⨟ ((is-ok, (is-t, (is-d, (is-x, tt)))), (λ ok. sound-rule t ok .tray-is .cells-most)) ⨟ refl ⨟ refl ⨟ λ is-n.
     tt ⨟ tt ⨟ (tt, tt)
     ⨟ apart ((λ yes. let same = turn .refuses yes in
     (_ ⨟ refused-answer-met ⨟ (n, tt) ⨟ ((is-n, tt), tt) ⨟ refl ⨟ refl ⨟ λ is-r.

@@ -46,14 +46,18 @@ sound-spec 𝓤 H 𝓜 𝓖 𝓡 =
     calling 𝓤 H 𝓜 𝓖 𝓡 code.env parts.desk-record steps.sound key.name code.function (code.unfolded 𝓤 H 𝓜 𝓡) refl
     (λ κ q b o γ t a is-a is need.
     let own-desk-met = does parts.own-desk own-desk.name own-desk.routine code.calls-desk-parts·own-desk (own-desk-thm.met 𝓤 H 𝓜 𝓖 𝓡) κ q b o γ in
-    let own-counts-met = does parts.own-counts own-counts.name own-counts.routine code.calls-desk-parts·own-counts (own-counts-thm.met 𝓤 H 𝓜 𝓖 𝓡) κ q b o γ in
+    let own-counts-met = does parts.own-counts own-counts.name own-counts.routine code.calls-desk-parts·own-counts
+    (own-counts-thm.met 𝓤 H 𝓜 𝓖 𝓡) κ q b o γ in
     let own-tray-met = does parts.own-tray own-tray.name own-tray.routine code.calls-desk-parts·own-tray (own-tray-thm.met 𝓤 H 𝓜 𝓖 𝓡) κ q b o γ in
     let own-seat-met = does parts.own-seat own-seat.name own-seat.routine code.calls-desk-parts·own-seat (own-seat-thm.met 𝓤 H 𝓜 𝓖 𝓡) κ q b o γ in
     let own-used-met = does steps.own-used own-used.name own-used.routine code.calls-desk-step·own-used (own-used-thm.met 𝓤 H 𝓜 𝓖 𝓡) κ q b o γ in
     let own-past-met = does steps.own-past own-past.name own-past.routine code.calls-desk-step·own-past (own-past-thm.met 𝓤 H 𝓜 𝓖 𝓡) κ q b o γ in
-    let desk-index-met = knows acts.desk-index desk-index.name desk-index.routine code.calls-desk-acts·desk-index (desk-index-thm.met 𝓤 H 𝓜 𝓖 𝓡) κ q b o γ in
-    let row-count-met = knows adds.row-count row-count.name row-count.routine code.calls-desk-sums·row-count (row-count-thm.met 𝓤 H 𝓜 𝓖 𝓡) κ q b o γ in
-    let record-fits-met = knows adds.record-fits record-fits.name record-fits.routine code.calls-desk-sums·record-fits (record-fits-thm.met 𝓤 H 𝓜 𝓖 𝓡) κ q b o γ in
+    let desk-index-met = knows acts.desk-index desk-index.name desk-index.routine code.calls-desk-acts·desk-index
+    (desk-index-thm.met 𝓤 H 𝓜 𝓖 𝓡) κ q b o γ in
+    let row-count-met = knows adds.row-count row-count.name row-count.routine code.calls-desk-sums·row-count
+    (row-count-thm.met 𝓤 H 𝓜 𝓖 𝓡) κ q b o γ in
+    let record-fits-met = knows adds.record-fits record-fits.name record-fits.routine code.calls-desk-sums·record-fits
+    (record-fits-thm.met 𝓤 H 𝓜 𝓖 𝓡) κ q b o γ in
     let d : ℕ = t .desk in let n : ℕ = rowCount (t .tray .counts) in let few : rowCount (t .tray .counts) ≤ 32 = omega arith in
     let used : Sum = usedSum (placeAt (t .tray)) (cellAt (t .row)) d noSum n in let row : Sum = pastSum (cellAt (t .row)) n used 32 in
     (tt, tt) ⨟ _ ⨟ own-desk-met ⨟ tt ⨟ (tt, tt) ⨟ refl ⨟ refl ⨟ λ is-b. (tt, tt)

@@ -25,7 +25,8 @@ store-spec 𝓤 H 𝓜 𝓖 𝓡 =
     let knows = valued 𝓤 H 𝓜 𝓖 𝓡 code.env parts.desk-record in
     calling 𝓤 H 𝓜 𝓖 𝓡 code.env parts.desk-record steps.store key.name code.function (code.unfolded 𝓤 H 𝓜 𝓡) refl
     (λ κ q b o γ t a is-a is need.
-    let put-own-seat-met = does parts.put-own-seat put-own-seat.name put-own-seat.routine code.calls-desk-parts·put-own-seat (put-own-seat-thm.met 𝓤 H 𝓜 𝓖 𝓡) κ q b o γ in
+    let put-own-seat-met = does parts.put-own-seat put-own-seat.name put-own-seat.routine code.calls-desk-parts·put-own-seat
+    (put-own-seat-thm.met 𝓤 H 𝓜 𝓖 𝓡) κ q b o γ in
     let put-own-met = does parts.put-own put-own.name put-own.routine code.calls-desk-parts·put-own (put-own-thm.met 𝓤 H 𝓜 𝓖 𝓡) κ q b o γ in
     let storing-met = knows acts.storing storing.name storing.routine code.calls-desk-acts·storing (storing-thm.met 𝓤 H 𝓜 𝓖 𝓡) κ q b o γ in
     let c = a .0 in let s = a .1 .0 in let w = a .1 .1 .0 in let is-c = is-a .0 in let is-s = is-a .1 .0 in let is-w = is-a .1 .1 .0 in

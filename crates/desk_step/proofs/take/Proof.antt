@@ -42,10 +42,14 @@ take-spec 𝓤 H 𝓜 𝓖 𝓡 =
     calling 𝓤 H 𝓜 𝓖 𝓡 code.env parts.desk-record steps.take key.name code.function (code.unfolded 𝓤 H 𝓜 𝓡) refl
     (λ κ q b o γ t a is-a is need.
     let own-cell-met = does parts.own-cell own-cell.name own-cell.routine code.calls-desk-parts·own-cell (own-cell-thm.met 𝓤 H 𝓜 𝓖 𝓡) κ q b o γ in
-    let take-write-met = does steps.take-write take-write.name take-write.routine code.calls-desk-step·take-write (take-write-thm.met 𝓤 H 𝓜 𝓖 𝓡) κ q b o γ in
-    let sends-write-met = knows acts.sends-write sends-write.name sends-write.routine code.calls-desk-acts·sends-write (sends-write-thm.met 𝓤 H 𝓜 𝓖 𝓡) κ q b o γ in
-    let named-cell-met = knows acts.named-cell named-cell.name named-cell.routine code.calls-desk-acts·named-cell (named-cell-thm.met 𝓤 H 𝓜 𝓖 𝓡) κ q b o γ in
-    let served-answer-met = knows acts.served-answer served-answer.name served-answer.routine code.calls-desk-acts·served-answer (served-answer-thm.met 𝓤 H 𝓜 𝓖 𝓡) κ q b o γ in
+    let take-write-met = does steps.take-write take-write.name take-write.routine code.calls-desk-step·take-write
+    (take-write-thm.met 𝓤 H 𝓜 𝓖 𝓡) κ q b o γ in
+    let sends-write-met = knows acts.sends-write sends-write.name sends-write.routine code.calls-desk-acts·sends-write
+    (sends-write-thm.met 𝓤 H 𝓜 𝓖 𝓡) κ q b o γ in
+    let named-cell-met = knows acts.named-cell named-cell.name named-cell.routine code.calls-desk-acts·named-cell
+    (named-cell-thm.met 𝓤 H 𝓜 𝓖 𝓡) κ q b o γ in
+    let served-answer-met = knows acts.served-answer served-answer.name served-answer.routine code.calls-desk-acts·served-answer
+    (served-answer-thm.met 𝓤 H 𝓜 𝓖 𝓡) κ q b o γ in
     let m = a .0 in let is-m = is-a .0 in let there = serve-place t m need in let same = serve-in t (row-long t is) m need in
     let few = sound-rule t (served t m need .sound) .tray-is .cells-most in let write = eqb (m .kind) 2 in let lost : ℕ = lossIn t (m .clock) in
     let u = servedIn t m in let n : ℕ = servedCount t m in let x = cellAt (u .row) (m .cell) in

@@ -37,10 +37,13 @@ take-write-spec 𝓤 H 𝓜 𝓖 𝓡 =
     let own-seat-met = does parts.own-seat own-seat.name own-seat.routine code.calls-desk-parts·own-seat (own-seat-thm.met 𝓤 H 𝓜 𝓖 𝓡) κ q b o γ in
     let lose-met = does steps.lose lose.name lose.routine code.calls-desk-step·lose (lose-thm.met 𝓤 H 𝓜 𝓖 𝓡) κ q b o γ in
     let store-met = does steps.store store.name store.routine code.calls-desk-step·store (store-thm.met 𝓤 H 𝓜 𝓖 𝓡) κ q b o γ in
-    let sent-clock-met = knows acts.sent-clock sent-clock.name sent-clock.routine code.calls-desk-acts·sent-clock (sent-clock-thm.met 𝓤 H 𝓜 𝓖 𝓡) κ q b o γ in
+    let sent-clock-met = knows acts.sent-clock sent-clock.name sent-clock.routine code.calls-desk-acts·sent-clock
+    (sent-clock-thm.met 𝓤 H 𝓜 𝓖 𝓡) κ q b o γ in
     let took-met = knows acts.took took.name took.routine code.calls-desk-acts·took (took-thm.met 𝓤 H 𝓜 𝓖 𝓡) κ q b o γ in
-    let named-cell-met = knows acts.named-cell named-cell.name named-cell.routine code.calls-desk-acts·named-cell (named-cell-thm.met 𝓤 H 𝓜 𝓖 𝓡) κ q b o γ in
-    let sent-word-met = knows acts.sent-word sent-word.name sent-word.routine code.calls-desk-acts·sent-word (sent-word-thm.met 𝓤 H 𝓜 𝓖 𝓡) κ q b o γ in
+    let named-cell-met = knows acts.named-cell named-cell.name named-cell.routine code.calls-desk-acts·named-cell
+    (named-cell-thm.met 𝓤 H 𝓜 𝓖 𝓡) κ q b o γ in
+    let sent-word-met = knows acts.sent-word sent-word.name sent-word.routine code.calls-desk-acts·sent-word
+    (sent-word-thm.met 𝓤 H 𝓜 𝓖 𝓡) κ q b o γ in
     let m = a .0 in let is-m = is-a .0 in
     (tt, tt) ⨟ _ ⨟ sent-clock-met ⨟ (m, tt) ⨟ ((is-m, tt), tt) ⨟ refl ⨟ refl ⨟ λ is-k.
     _ ⨟ lose-met ⨟ (m .clock, tt) ⨟ ((is-k, tt), need .1) ⨟ refl ⨟ refl ⨟ λ is-n. (tt, tt)

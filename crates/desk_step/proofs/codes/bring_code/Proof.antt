@@ -23,11 +23,25 @@ answer-fits-requires c κs = c .before .before .before .pre (not-false _ (c .bef
 
 returns-3 : tie.Need-returns-3
 unfolding bringCode firstOf
-returns-3 c = rw (c .before .before .before .before .if1 .left, ← c .before .before .before .waits .ensures, c .before .before .if2 .left, ← c .before .answer-fits .ensures, c .if3 .taken)
+returns-3 c =
+    rw (
+      c .before .before .before .before .if1 .left,
+      ← c .before .before .before .waits .ensures,
+      c .before .before .if2 .left,
+      ← c .before .answer-fits .ensures,
+      c .if3 .taken,
+    )
 
 returns-4 : tie.Need-returns-4
 unfolding bringCode firstOf
-returns-4 c = rw (c .before .before .before .before .if1 .left, ← c .before .before .before .waits .ensures, c .before .before .if2 .left, ← c .before .answer-fits .ensures, c .if3 .left)
+returns-4 c =
+    rw (
+      c .before .before .before .before .if1 .left,
+      ← c .before .before .before .waits .ensures,
+      c .before .before .if2 .left,
+      ← c .before .answer-fits .ensures,
+      c .if3 .left,
+    )
 
 pub bring-code-spec : {M : Type 1} → statement M
 bring-code-spec =
