@@ -11,8 +11,8 @@ use desk::Slot;
 use desk::Tray;
 use desk::sound::keeps;
 use desk::sound::waits;
-use desk_steps::is_own;
-use desk_steps::seat_refusal;
+use desk_refusals::is_own;
+use desk_refusals::seat_refusal;
 
 pub fn event_code(sound: bool, t: Tray, desk: u8, s: Seat, e: Event) -> u32
     requires { ⌜ (sound ≡ true → (desk < 8) × (t .counts .cells ≤ 32)) ⌝ }

@@ -1,10 +1,8 @@
-// The table of all desks, with their messages under way: its type, and whether it is sound. What is done with it stands in the crates above.
+// The table of all desks, with their messages under way: its type. What is done with it stands in the crates above.
 use desk::Cell;
 use desk::Reply;
 use desk::Seat;
 use desk::Tray;
-
-pub mod sound;
 
 // Desk d's cell c is entry d * 32 + c of `cells`.
 #[repr(C)]

@@ -38,7 +38,7 @@ use desk_acts::storing;
 use desk_acts::took;
 use desk_acts::unplaced;
 use desk_acts::word_of;
-use desk_steps::seat_refusal;
+use desk_refusals::seat_refusal;
 use desk_sums::keeps;
 use table::Table;
 use table_parts::cell_at;

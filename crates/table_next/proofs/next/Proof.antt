@@ -1,7 +1,7 @@
 -- `table_next::next` meets its contract: the table is lent to the step.
 -- Assumes nothing.
 use mathlib.Core.Path.{refl}
-use types.Kit.{!}
+use types.Kit.{ ! }
 use types.Run.{from, stop, load, look, and-then, no-more}
 use Rattle.table.specs.Rules.{eventRule}
 use Rattle.table_next.proofs.Fns as fns

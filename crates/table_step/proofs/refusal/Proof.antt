@@ -22,9 +22,9 @@ use Rattle.table_parts.proofs.counts.Symbol as counts
 use Rattle.walks.proofs.Branch.{is-true, is-false}
 use Rattle.desk_acts.proofs.desk_byte.Met as desk-byte-thm
 use Rattle.walks.proofs.Callees.{lent, valued}
-use Rattle.desk_steps.proofs.seat_refusal.Met as seat-refusal-thm
+use Rattle.desk_refusals.proofs.seat_refusal.Met as seat-refusal-thm
 use Rattle.desk_acts.proofs.Acts as acts
-use Rattle.desk_steps.proofs.seat_refusal.Symbol as seat-refusal
+use Rattle.desk_refusals.proofs.seat_refusal.Symbol as seat-refusal
 use Rattle.table_parts.proofs.tray.Met as tray-thm
 use Rattle.table.specs.SoundLaws.{sound-tray}
 use Rattle.desk_acts.proofs.desk_of.Met as desk-of-thm
@@ -47,7 +47,7 @@ refusal-spec 𝓤 H 𝓜 𝓖 𝓡 =
     let unplaced-met = knows acts.unplaced unplaced.name unplaced.routine code.calls-desk-acts·unplaced (unplaced-thm.met 𝓤 H 𝓜 𝓖 𝓡) κ q b o γ in
     let desk-byte-met = knows acts.desk-byte desk-byte.name desk-byte.routine code.calls-desk-acts·desk-byte (desk-byte-thm.met 𝓤 H 𝓜 𝓖 𝓡) κ q b o γ in
     let desk-of-met = knows acts.desk-of desk-of.name desk-of.routine code.calls-desk-acts·desk-of (desk-of-thm.met 𝓤 H 𝓜 𝓖 𝓡) κ q b o γ in
-    let seat-refusal-met = knows acts.seat-refusal seat-refusal.name seat-refusal.routine code.calls-desk-steps·seat-refusal (seat-refusal-thm.met 𝓤 H 𝓜 𝓖 𝓡) κ q b o γ in
+    let seat-refusal-met = knows acts.seat-refusal seat-refusal.name seat-refusal.routine code.calls-desk-refusals·seat-refusal (seat-refusal-thm.met 𝓤 H 𝓜 𝓖 𝓡) κ q b o γ in
     let e = a .0 in let is-e = is-a .0 in let code = unplacedOf t e in let tray = sound-tray t need in
     (tt, tt) ⨟ _ ⨟ counts-met ⨟ tt ⨟ (tt, tt) ⨟ refl ⨟ refl ⨟ λ is-n.
     _ ⨟ unplaced-met ⨟ (t .tray .counts, (e, tt)) ⨟ ((is-n, (is-e, tt)), tt) ⨟ refl ⨟ refl ⨟ λ is-c. tt ⨟ tt ⨟ (tt, tt)
