@@ -8,8 +8,8 @@ ghost use Rattle.theory_lists.specs.Test.{every};
 ghost use Rattle.spelling.specs.Bytes.{spell, put};
 ghost use Rattle.frame.specs.Frame.{widths, carriedOrZero, writeCode, writeRule, outputRule};
 ghost use Rattle.frame.specs.Laws.{headOf};
+ghost use Rattle.frame_write.specs.Given.{given};
 use clock::Clock;
-use desk::Message;
 use frame::Written;
 use frame::carries;
 use frame::fault;
@@ -17,36 +17,41 @@ use spelling::put_four;
 use spelling::put_fours;
 use spelling::put_two;
 
-// The frame of a message, at the start of the output. A refusal leaves every byte as it was.
-pub fn write(m: Message, out: &mut [u8]) -> Written
-    ensures { λ r. ⌜ r ≡ writeRule m (now (out .entry)) ⌝ }
-    ensures { λ r. ⌜ now (out .exit) ≡ outputRule m (now (out .entry)) ⌝ }
+// The frame of a message, given part by part, at the start of the output. A refusal leaves every byte as it was.
+pub fn write(
+    out: &mut [u8],
+    kind: u8,
+    desks: u8,
+    desk: u8,
+    cell: u8,
+    word: u32,
+    clock: Clock,
+) -> Written
+    ensures { λ r. ⌜ (r ≡ writeRule (given kind desks desk cell word clock) (now (out .entry))) × (now (out .exit) ≡ outputRule (given kind desks desk cell word clock) (now (out .entry))) ⌝ }
 {
-    let code = write_code(m, out.len());
+    let code = write_code(kind, desks, desk, cell, word, clock, out.len());
     if code != 0 {
         return Written { code, used: 0 };
     }
-    let c = carries(m.kind, m.desks);
+    let c = carries(kind, desks);
     let size = 5 + 4 * c;
-    put_head(out, size, m.kind, m.desks, m.desk, m.cell);
-    let clock = m.clock;
-    put_numbers(out, m.word, clock, c);
+    put_head(out, size, kind, desks, desk, cell);
+    put_numbers(out, word, clock, c);
     Written {
         code: 0,
         used: 2 + size,
     }
 }
 
-fn write_code(m: Message, room: usize) -> u32
-    ensures { λ r. ⌜ r ≡ writeCode m room ⌝ }
+fn write_code(kind: u8, desks: u8, desk: u8, cell: u8, word: u32, clock: Clock, room: usize) -> u32
+    ensures { λ r. ⌜ r ≡ writeCode (given kind desks desk cell word clock) room ⌝ }
 {
-    let code = fault(m.kind, m.desks, m.desk, m.cell);
+    let code = fault(kind, desks, desk, cell);
     if code != 0 {
         return code;
     }
-    let c = carries(m.kind, m.desks);
-    let clock = m.clock;
-    if !rest_is_zero(m.word, clock, c) {
+    let c = carries(kind, desks);
+    if !rest_is_zero(word, clock, c) {
         return 38;
     }
     if room < 7 + 4 * c {

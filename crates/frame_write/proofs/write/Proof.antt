@@ -10,6 +10,7 @@ use Rattle.desk.specs.declared.Message.{Message}
 use Rattle.spelling.specs.Bytes.{bytes, spell, put, put-next}
 use Rattle.frame.specs.Frame.{carried, lengthOf, frameOf}
 use Rattle.frame.specs.Laws.{Writable, writable, called, headOf, bodyOf, frame-split, write-refused, write-accepted}
+use Rattle.frame_write.specs.Given.{given}
 use Rattle.frame_write.proofs.write.Statement.{statement}
 use Rattle.frame_write.proofs.write.Tie as tie
 
@@ -27,12 +28,16 @@ put-both m l c e size x y p q =
     end : 2 + lengthOf (m .kind) (m .desks) ≡ 7 + 4 * c
     end = omega arith
 
-told : (c : tie.Else1) → Writable (c .before .before .before .args .m) (length (c .before .before .before .args .out .now))
+-- the message that the function is given
+abbrev message : tie.Start → Message
+message s = given (s .args .kind) (s .args .desks) (s .args .desk) (s .args .cell) (s .args .word) (s .args .clock)
+
+told : (c : tie.Else1) → Writable (message (c .before .before .before)) (length (c .before .before .before .args .out .now))
 told c = writable _ _ (sym (c .before .write-code .ensures) ∙ c .if1 .left)
 
 carries-told : (c : tie.After-carries)
-    → (lengthOf (c .before .before .before .before .args .m .kind)
-    (c .before .before .before .before .args .m .desks) ≡ 5 + 4 * c .carries .result)
+    → (lengthOf (c .before .before .before .before .args .kind)
+    (c .before .before .before .before .args .desks) ≡ 5 + 4 * c .carries .result)
     × (c .carries .result ≤ 9)
     × (7 + 4 * c .carries .result ≤ length (c .before .before .before .before .args .out .now))
 carries-told c =
@@ -60,25 +65,25 @@ put-head-requires c κs = omega (arith, carries-told (c .before))
 
 put-numbers-requires : tie.Need-put-numbers-requires
 put-numbers-requires c κs =
-    let ready = carries-told (c .before .before .before .before .before .before) in
+    let ready = carries-told (c .before .before .before .before .before) in
     (ready .1, omega (arith, ready .2))
 
-add-t7 : tie.Need-add-t7
-add-t7 c = omega (arith, carries-told (c .before .before .before .before .before .before .before .before .before))
+add-t11 : tie.Need-add-t11
+add-t11 c = omega (arith, carries-told (c .before .before .before .before .before .before .before .before))
 
 same-length : tie.Need-same-length
 same-length c = search needs
 
 returns-2 : tie.Need-returns-2
 returns-2 c =
-    let at = c .before .before .before .before .before .before .before .before .before in
-    let m = at .before .before .before .before .args .m in
+    let at = c .before .before .before .before .before .before .before .before in
+    let m = message (at .before .before .before .before) in
     let l = at .before .before .before .before .args .out .now in
     let size = carries-told at .0 in
     let done = write-accepted m l (sym (at .before .before .write-code .ensures) ∙ at .before .if1 .left) in (
       sym (done .0 ∙ (λ i. record { code = 0; used = 2 + size i })),
       put-both m l (at .carries .result) (at .carries .ensures) size _ _
-          (c .before .before .before .before .before .before .before .put-head .ensures)
+          (c .before .before .before .before .before .before .put-head .ensures)
           (c .before .before .put-numbers .ensures) ∙ sym (done .1),
     )
 
@@ -93,6 +98,6 @@ write-spec =
     add-size
     put-head-requires
     put-numbers-requires
-    add-t7
+    add-t11
     same-length
     returns-2)
