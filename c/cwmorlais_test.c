@@ -147,7 +147,7 @@ static cwmorlais_answer by_desks(cwmorlais_record *desk, frame *under_way, cwmor
         : e.kind == BRING ? cwmorlais_desk_bring(&desk[e.desk], m)
         : cwmorlais_desk_event(&desk[e.desk], e);
     if (a.reply.code == 1 || e.kind == TAKE) {
-        EXPECT(cwmorlais_frame_write(a.message, bytes, CWMORLAIS_FRAME_BYTES).code == 0);
+        EXPECT(cwmorlais_frame_write(&a.message, bytes, CWMORLAIS_FRAME_BYTES).code == 0);
     } else {
         EXPECT(same_message(a.message, no_message));
     }
@@ -242,7 +242,7 @@ static void refuse_write(uint32_t code, cwmorlais_message m, size_t room) {
     frame out;
     bool same = true;
     for (int i = 0; i < CWMORLAIS_FRAME_BYTES; i++) out[i] = 170;
-    cwmorlais_written w = cwmorlais_frame_write(m, out, room);
+    cwmorlais_written w = cwmorlais_frame_write(&m, out, room);
     for (int i = 0; i < CWMORLAIS_FRAME_BYTES; i++) same = same && out[i] == 170;
     EXPECT(w.code == code && w.used == 0 && same);
 }
@@ -250,7 +250,7 @@ static void refuse_write(uint32_t code, cwmorlais_message m, size_t room) {
 static void refuse_frames(void) {
     cwmorlais_message m = {.kind = 2, .desks = 3, .desk = 2, .cell = 1, .word = 500, .clock = {{0, 0, 2}}};
     frame out = {[23] = 170};
-    cwmorlais_written w = cwmorlais_frame_write(m, out, CWMORLAIS_FRAME_BYTES);
+    cwmorlais_written w = cwmorlais_frame_write(&m, out, CWMORLAIS_FRAME_BYTES);
     EXPECT(w.code == 0 && w.used == 23 && out[23] == 170 && out[1] == 21 && out[9] == 1 && out[10] == 244 && out[22] == 2);
     EXPECT(same_message(received(out), m));
     refuse_write(37, m, 22);
@@ -324,7 +324,7 @@ static void measure_stack(void) {
         }
         if (e.kind == BRING) paint(), a = cwmorlais_desk_bring(&desk[e.desk], r.message), bring = most_used(bring);
         if (a.reply.code == 1 || e.kind == TAKE) {
-            paint(), cwmorlais_frame_write(a.message, under_way[e.desk], CWMORLAIS_FRAME_BYTES), write = most_used(write);
+            paint(), cwmorlais_frame_write(&a.message, under_way[e.desk], CWMORLAIS_FRAME_BYTES), write = most_used(write);
         }
     }
     printf("stack: start %d, event %d, serve %d, bring %d, read %d, write %d, set_up %d, table_event %d\n", (int)start, (int)event, (int)serve, (int)bring, (int)read, (int)write, (int)set_up, (int)table_event);

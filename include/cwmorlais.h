@@ -176,8 +176,8 @@ cwmorlais_answer cwmorlais_desk_bring(cwmorlais_record *v, cwmorlais_message m);
 /* The message whose frame the bytes start with; bytes after the frame are allowed. Refuses 30, 36, 31, 32, 33, 34, 35, 36. */
 cwmorlais_reading cwmorlais_frame_read(const uint8_t *bytes, size_t length);
 
-/* The frame of m, at the start of out; nothing past it is changed. Refuses 32, 33, 34, 35, 38, 37. */
-cwmorlais_written cwmorlais_frame_write(cwmorlais_message m, uint8_t *out, size_t length);
+/* The frame of m, which is only read, at the start of out; nothing past it is changed. Refuses 32, 33, 34, 35, 38, 37. */
+cwmorlais_written cwmorlais_frame_write(const cwmorlais_message *m, uint8_t *out, size_t length);
 
 /* ---- All desks, over a table */
 

@@ -59,11 +59,10 @@ pub extern "C" fn cwmorlais_frame_read(s: &[u8]) -> Reading
 
 // The frame of a message, at the start of the output.
 #[no_mangle]
-pub extern "C" fn cwmorlais_frame_write(m: Message, out: &mut [u8]) -> Written
-    ensures { λ r. ⌜ r ≡ writeRule m (now (out .entry)) ⌝ }
-    ensures { λ r. ⌜ now (out .exit) ≡ outputRule m (now (out .entry)) ⌝ }
+pub extern "C" fn cwmorlais_frame_write(m: &Message, out: &mut [u8]) -> Written
+    ensures { λ r. ⌜ (r ≡ writeRule (now (m .entry)) (now (out .entry))) × (now (out .exit) ≡ outputRule (now (m .entry)) (now (out .entry))) ⌝ }
 {
-    frame_write::write(m, out)
+    frame_write::write(out, m.kind, m.desks, m.desk, m.cell, m.word, m.clock)
 }
 
 // A fresh table.

@@ -175,9 +175,17 @@ fn read_first(s: &[u8], n: usize) -> Reading {
 
 fn write_first(m: Message, out: &mut [u8], room: usize) -> Written {
     if out.len() < room {
-        return frame_write::write(m, out);
+        return frame_write::write(out, m.kind, m.desks, m.desk, m.cell, m.word, m.clock);
     }
-    frame_write::write(m, &mut out[0..room])
+    frame_write::write(
+        &mut out[0..room],
+        m.kind,
+        m.desks,
+        m.desk,
+        m.cell,
+        m.word,
+        m.clock,
+    )
 }
 
 fn put_first(s: &[u8], n: usize) {

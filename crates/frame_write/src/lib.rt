@@ -6,53 +6,80 @@ ghost use lib.ListN.{length, take, drop};
 ghost use Rattle.theory_lists.specs.Each.{mapAt};
 ghost use Rattle.theory_lists.specs.Test.{every};
 ghost use Rattle.spelling.specs.Bytes.{spell, put};
-ghost use Rattle.frame.specs.Frame.{widths, carriedOrZero, writeCode, writeRule, outputRule};
+ghost use Rattle.frame.specs.Frame.{widths, faultOf, carriedOrZero, writeRule, outputRule};
 ghost use Rattle.frame.specs.Laws.{headOf};
+ghost use Rattle.frame_write.specs.Given.{given};
 use clock::Clock;
-use desk::Message;
 use frame::Written;
-use frame::carries;
 use frame::fault;
 use spelling::put_four;
 use spelling::put_fours;
 use spelling::put_two;
 
-// The frame of a message, at the start of the output. A refusal leaves every byte as it was.
-pub fn write(m: Message, out: &mut [u8]) -> Written
-    ensures { λ r. ⌜ r ≡ writeRule m (now (out .entry)) ⌝ }
-    ensures { λ r. ⌜ now (out .exit) ≡ outputRule m (now (out .entry)) ⌝ }
+// The frame of a message, given part by part, at the start of the output. A refusal leaves every byte as it was.
+pub fn write(
+    out: &mut [u8],
+    kind: u8,
+    desks: u8,
+    desk: u8,
+    cell: u8,
+    word: u32,
+    clock: Clock,
+) -> Written
+    ensures { λ r. ⌜ (r ≡ writeRule (given kind desks desk cell word clock) (now (out .entry))) × (now (out .exit) ≡ outputRule (given kind desks desk cell word clock) (now (out .entry))) ⌝ }
 {
-    let code = write_code(m, out.len());
+    let code = fault(kind, desks, desk, cell);
     if code != 0 {
         return Written { code, used: 0 };
     }
-    let c = carries(m.kind, m.desks);
+    if kind == 1 {
+        return bare(out, desks, desk, cell, word, clock);
+    }
+    whole(out, kind, desks, desk, cell, word, clock)
+}
+
+// A read asked: its frame is the head alone.
+fn bare(out: &mut [u8], desks: u8, desk: u8, cell: u8, word: u32, clock: Clock) -> Written
+    requires { ⌜ faultOf 1 desks desk cell ≡ 0 ⌝ }
+    ensures { λ r. ⌜ (r ≡ writeRule (given 1 desks desk cell word clock) (now (out .entry))) × (now (out .exit) ≡ outputRule (given 1 desks desk cell word clock) (now (out .entry))) ⌝ }
+{
+    if !rest_is_zero(word, clock, 0) {
+        return Written { code: 38, used: 0 };
+    }
+    if out.len() < 7 {
+        return Written { code: 37, used: 0 };
+    }
+    put_head(out, 5, 1, desks, desk, cell);
+    Written { code: 0, used: 7 }
+}
+
+// Any other: the head, the word and a clock number for each desk.
+fn whole(
+    out: &mut [u8],
+    kind: u8,
+    desks: u8,
+    desk: u8,
+    cell: u8,
+    word: u32,
+    clock: Clock,
+) -> Written
+    requires { ⌜ (kind ≡ 1 → ⊥) × (faultOf kind desks desk cell ≡ 0) ⌝ }
+    ensures { λ r. ⌜ (r ≡ writeRule (given kind desks desk cell word clock) (now (out .entry))) × (now (out .exit) ≡ outputRule (given kind desks desk cell word clock) (now (out .entry))) ⌝ }
+{
+    let c = 1 + desks as usize;
+    if !rest_is_zero(word, clock, c) {
+        return Written { code: 38, used: 0 };
+    }
+    if out.len() < 7 + 4 * c {
+        return Written { code: 37, used: 0 };
+    }
     let size = 5 + 4 * c;
-    put_head(out, size, m.kind, m.desks, m.desk, m.cell);
-    let clock = m.clock;
-    put_numbers(out, m.word, clock, c);
+    put_head(out, size, kind, desks, desk, cell);
+    put_numbers(out, word, clock, c);
     Written {
         code: 0,
         used: 2 + size,
     }
-}
-
-fn write_code(m: Message, room: usize) -> u32
-    ensures { λ r. ⌜ r ≡ writeCode m room ⌝ }
-{
-    let code = fault(m.kind, m.desks, m.desk, m.cell);
-    if code != 0 {
-        return code;
-    }
-    let c = carries(m.kind, m.desks);
-    let clock = m.clock;
-    if !rest_is_zero(m.word, clock, c) {
-        return 38;
-    }
-    if room < 7 + 4 * c {
-        return 37;
-    }
-    0
 }
 
 // Whether the word and the clock's numbers are 0 from place c on: they are not sent, so nothing may be lost with them.

@@ -236,7 +236,7 @@ impl Part for Proved {
     }
 
     fn write(message: &Message, out: &mut [u8]) -> Result<usize, u32> {
-        let sys::Written { code, used } = sys::frame_write(message.same(), out);
+        let sys::Written { code, used } = sys::frame_write(&message.same(), out);
         result(code, used)
     }
 }

@@ -307,7 +307,7 @@ fn frame_read(tally: &mut Tally, bytes: &[u8], seed: u64) {
 fn frame_write(tally: &mut Tally, message: &Message, room: usize, seed: u64) {
     let filled: [u8; 64] = std::array::from_fn(|i| (i as u8) ^ seed as u8);
     let (mut ours, mut twins) = (filled, filled);
-    let written = sys::frame_write(message.same(), &mut ours[8..][..room]);
+    let written = sys::frame_write(&message.same(), &mut ours[8..][..room]);
     let result = frame::write(message, &mut twins[8..][..room]);
     let expected = sys::Written {
         code: result.err().map_or(0, code),

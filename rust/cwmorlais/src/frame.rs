@@ -21,7 +21,7 @@ impl Frame {
     /// The frame of a message that a sound record gave: it has one, and 43 bytes are room enough.
     pub(crate) fn of(message: Message, to: u8) -> Frame {
         let mut bytes = [0; FRAME_BYTES];
-        let written = sys::frame_write(message, &mut bytes);
+        let written = sys::frame_write(&message, &mut bytes);
         assert_eq!(
             written.code, 0,
             "a desk's own message has a frame: {message:?}"
@@ -88,7 +88,7 @@ pub fn read_frame(bytes: &[u8]) -> Result<(Message, usize), Refusal> {
 /// Writes a message's frame at the front of `out` and nothing past it, and tells how many bytes it
 /// used; or 32 to 35, 38, 37, and `out` is as it was. [`FRAME_BYTES`] are always room enough.
 pub fn write_frame(message: &Message, out: &mut [u8]) -> Result<usize, Refusal> {
-    let written = sys::frame_write(*message, out);
+    let written = sys::frame_write(message, out);
     match written.code {
         0 => Ok(written.used),
         code => Err(Refusal::given(code)),

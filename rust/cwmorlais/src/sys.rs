@@ -232,7 +232,7 @@ pub fn frame_read(bytes: &[u8]) -> Reading {
 }
 
 /// Writes a message's frame at the front of `out`, and nothing past it: 32 to 35, 38, 37.
-pub fn frame_write(message: Message, out: &mut [u8]) -> Written {
+pub fn frame_write(message: &Message, out: &mut [u8]) -> Written {
     // SAFETY: as below; and the slice's bytes are there to write, and nobody else's meanwhile.
     unsafe { cwmorlais_frame_write(message, out.as_mut_ptr(), out.len()) }
 }
@@ -261,7 +261,7 @@ unsafe extern "C" {
     #[link_name = "cwmorlais_table_event"]
     pub safe fn table_event(table: &mut Table, event: Event) -> Reply;
     fn cwmorlais_frame_read(bytes: *const u8, count: usize) -> Reading;
-    fn cwmorlais_frame_write(message: Message, out: *mut u8, room: usize) -> Written;
+    fn cwmorlais_frame_write(message: &Message, out: *mut u8, room: usize) -> Written;
 }
 
 /// Holds each type to the header's layout: its size, and where each field stands. A field that is

@@ -412,7 +412,7 @@ fn frames() {
             State::Reused,
             ([0; frame::LONGEST], [0; frame::LONGEST]),
             |out| {
-                black_box(sys::frame_write(black_box(our_message), out));
+                black_box(sys::frame_write(black_box(&our_message), out));
             },
             |out| {
                 let _ = black_box(frame::write(black_box(&message), out));
