@@ -13,8 +13,5 @@ pub fn next(t: Table, e: Event) -> Outcome
 {
     let mut after = t;
     let reply = table_step::step(&mut after, e);
-    Outcome {
-        reply,
-        after,
-    }
+    Outcome { reply, after }
 }

@@ -60,7 +60,7 @@ abbrev pub asked : {M : Type 1} (𝓤 : URA M) {X : Type 0} → Pre X → X → 
 asked 𝓤 always x = emp 𝓤
 asked 𝓤 (where-holds φ) x = fact 𝓤 (φ x)
 
-asked-out : {M : Type 1} (𝓤 : URA M) {X : Type 0} (p : Pre X) (x : X) (P : SProp 𝓤) {Q : SProp 𝓤} → (Asked p x → ent 𝓤 P Q)
+pub asked-out : {M : Type 1} (𝓤 : URA M) {X : Type 0} (p : Pre X) (x : X) (P : SProp 𝓤) {Q : SProp 𝓤} → (Asked p x → ent 𝓤 P Q)
     → ent 𝓤 (sep 𝓤 P (asked 𝓤 p x)) Q
 asked-out 𝓤 always x P h = via 𝓤 P (fst∗ 𝓤 P (emp 𝓤)) (h tt)
 asked-out 𝓤 (where-holds φ) x P h = needs 𝓤 (φ x) P h
@@ -202,7 +202,7 @@ module _ {M : Type 1} (𝓤 : URA M) (H : Heap 𝓤) (A : Atoms 𝓤) (T : Plain
 abbrev pub Returns : (T : Plain) (F : LentFn T) → Of T → Args (F .Ps) → Val → Of T → Type 2
 Returns T F t a v t′ = (v ≡ val (F .R) (F .res t a)) × IsOf (F .R) (F .res t a) × (t′ ≡ F .after t a) × Unit {2}
 
-beside : {M : Type 1} (𝓤 : URA M) (P : SProp 𝓤) {Q : SProp 𝓤} → ent 𝓤 (emp 𝓤) Q → ent 𝓤 P (sep 𝓤 P Q)
+pub beside : {M : Type 1} (𝓤 : URA M) (P : SProp 𝓤) {Q : SProp 𝓤} → ent 𝓤 (emp 𝓤) Q → ent 𝓤 P (sep 𝓤 P Q)
 beside 𝓤 P {Q} free = via 𝓤 (sep 𝓤 (emp 𝓤) P) (emp∗ 𝓤 P) (via 𝓤 (sep 𝓤 Q P) (monoL 𝓤 P free) (comm∗ 𝓤 Q P))
 
 module _ {M : Type 1} (𝓤 : URA M) (H : Heap 𝓤) (A : Atoms 𝓤) (W : Given 𝓤 H A) (T : Plain) (F : LentFn T) where
@@ -342,11 +342,11 @@ module _ {M : Type 1} (𝓤 : URA M) (H : Heap 𝓤) (A : Atoms 𝓤) (W : Given
           (WpFn-mono 𝓤 H (W .laws) 𝓣 f) (walks-it walk)
 
 -- the types of the locals past the parameters
-abbrev past : List Ty → List Ty
+abbrev pub past : List Ty → List Ty
 past [] = []
 past (τ ∷ τs) = τs
 
-abbrev skip : List Plain → List Ty → List Ty
+abbrev pub skip : List Plain → List Ty → List Ty
 skip [] τs = τs
 skip (P ∷ Ps) τs = skip Ps (past τs)
 
