@@ -26,10 +26,11 @@ use sound.WpLaws.{fmOf, WpFn-mono}
 use contract.Lifetimes.{Lfts, Shares}
 use contract.Monad.{top, factI}
 use contract.Running.{GhostRules, Running, tables, tablesOf}
-use types.Kit.{Given, Item, ‵, raw, some, later, given, mean, nth, put, del, pull, fill, push, pop, ⋆, _⊛_, anyQ, runs, lands, Seq, Goal, Go, !, _$_}
-use types.Kit.{_∵_, qed, by, use0, use1, use3, await, learn, move, keep, drop, frame, suffices, split, join, pick, done, check, updating}
-use types.Kit.{fjoin, fsplit, fsplit3, fpick, fpack, now as at-once}
-use types.Run.{Opd, Opds, Writes, init, store, stop, from, look, load, lit, unit-lit, true-lit, false-lit, no-more, and-then, addr, assigns, land, first}
+use types.Kit.{Given, Item, ‵, raw, some, later, given, mean, nth, put, del, pull, fill, push, pop, ⋆, _⊛_, anyQ, runs, lands, Seq, Goal}
+use types.Kit.{Go, !, _$_, _∵_, qed, by, use0, use1, use3, await, learn, move, keep, drop, frame, suffices, split, join, pick, done}
+use types.Kit.{check, updating, fjoin, fsplit, fsplit3, fpick, fpack, now as at-once}
+use types.Run.{Opd, Opds, Writes, init, store, stop, from, look, load, lit, unit-lit, true-lit, false-lit, no-more, and-then}
+use types.Run.{addr, assigns, land, first}
 use types.SemTy.{Body as InBorrow}
 use types.Tokens.{lft-new, lft-end}
 use denote.Laws.{Is, Ises, Are, Spells, valss, shows}
@@ -53,8 +54,8 @@ use Rattle.walks.proofs.Lent.{LentFn, PlainFn, Asked, asked-out, beside
 use Rattle.walks.proofs.Lent as L
 use Rattle.walks.proofs.Locals.{Locals, Blocks, HasType, IsIn, somes, valAt, putAt, noTy, none-some, at-in, env, cells, dies, tyOf}
 use Rattle.walks.proofs.Locals.{blockOf, cellOf, cellAt, ty-is, nth-is, put-is, cell-at}
-use Rattle.walks.proofs.Plain.{Plain, Of, ty, val, own, coded, rowOf, IsOf, has-type, Args, AreOf, vals, tys, slots, kepts, stays, to, fro}
-use Rattle.walks.proofs.Plain.{fro-to, to-fro, spells, tellss, vss, flat-is, are-of, no-lasts, fits, has-all, have-types, go-all}
+use Rattle.walks.proofs.Plain.{Plain, Of, ty, val, own, coded, rowOf, IsOf, has-type, Args, AreOf, vals, tys, slots, kepts, stays}
+use Rattle.walks.proofs.Plain.{to, fro, fro-to, to-fro, spells, tellss, vss, flat-is, are-of, no-lasts, fits, has-all, have-types, go-all}
 use Rattle.walks.proofs.Walk.{Then, one, two, Stuck, ifKnown, ifLocal, if-local, Does, Ok, ok-runs, Context, Ends}
 
 -- ---- a function over a lent value, called with a value that lies in memory of one's own
@@ -89,7 +90,8 @@ module _ {M : Type 1} {𝓤 : URA M} {H : Heap 𝓤} {A : Atoms 𝓤} (W : Given
         qed W (later (given ((r ≡ val (F .R) (F .res t a)) × IsOf (F .R) (F .res t a)) (closed 𝓤 H A T (α ∷ []) fullShare b zero γ u))
         ∷ loan α γ ∷ []) ∵ updating ! $ await ! tt $ learn ! (λ φ. split ! $ fsplit3 ! $ keep ! (1 ∷ 3 ∷ 4 ∷ []) $
         use1 W (‵ (fres γ (coded T .code u))) (W .names .obs-res γ (coded T .code u)) $ move ! (1 ∷ 2 ∷ 0 ∷ []) $ lft-end ! tt $
-        use3 W (later (‵ (mem (rowOf T) .lies u b zero))) (ref-back 𝓤 H A W (rowOf T) (α ∷ []) γ u b zero) $ await ! tt $ fpick ! (λ vs. fsplit ! $
+        use3 W (later (‵ (mem (rowOf T) .lies u b zero))) (ref-back 𝓤 H A W (rowOf T) (α ∷ []) γ u b zero) $ await ! tt $
+        fpick ! (λ vs. fsplit ! $
         spelt ! (rowOf T) (Is (rowOf T)) (shows 𝓤 H A (rowOf T)) (λ x. val T x ∷ []) (T .L .low-is) fullShare u vs b zero $ move ! (1 ∷ []) $
         facts ! (rowOf T) (Is (rowOf T)) (shows 𝓤 H A (rowOf T)) u (val T u ∷ []) (λ is-u.
         use1 W (lying b u) (W .laws .raw-at fullShare (ty T) b zero (val T u)) $ at-once ! $ check ! (φ .0, φ .1, is-u) $ done !)))
@@ -138,7 +140,8 @@ module _ {M : Type 1} {𝓤 : URA M} {H : Heap 𝓤} {A : Atoms 𝓤} (W : Given
   takes n Γ =
       via 𝓤 (sep 𝓤 (mean 𝓤 H A (nth 𝓤 H A n Γ)) (⋆ 𝓤 H A (put 𝓤 H A n (‵ ftrue) Γ)))
       (via 𝓤 (sep 𝓤 (mean 𝓤 H A (nth 𝓤 H A n Γ)) (⋆ 𝓤 H A (del 𝓤 H A n Γ))) (pull 𝓤 H A n Γ) (monoR 𝓤 (mean 𝓤 H A (nth 𝓤 H A n Γ))
-      (via 𝓤 {P = ⋆ 𝓤 H A (del 𝓤 H A n Γ)} (sep 𝓤 (emp 𝓤) (⋆ 𝓤 H A (del 𝓤 H A n Γ))) (emp∗ 𝓤 (⋆ 𝓤 H A (del 𝓤 H A n Γ))) (fill 𝓤 H A n (‵ ftrue) Γ))))
+      (via 𝓤 {P = ⋆ 𝓤 H A (del 𝓤 H A n Γ)} (sep 𝓤 (emp 𝓤) (⋆ 𝓤 H A (del 𝓤 H A n Γ))) (emp∗ 𝓤 (⋆ 𝓤 H A (del 𝓤 H A n Γ)))
+      (fill 𝓤 H A n (‵ ftrue) Γ))))
       (push 𝓤 H A (nth 𝓤 H A n Γ) (put 𝓤 H A n (‵ ftrue) Γ))
 
   puts : (n : ℕ) (k : Item 𝓤) (Γ : List (Item 𝓤)) → ent 𝓤 (⋆ 𝓤 H A (k ∷ put 𝓤 H A n (‵ ftrue) Γ)) (⋆ 𝓤 H A (put 𝓤 H A n k Γ))
@@ -316,7 +319,8 @@ module _ {M : Type 1} {𝓤 : URA M} {H : Heap 𝓤} {A : Atoms 𝓤} {W : Given
   }
 
   -- `i := &mut j`: that an address is of i's type
-  pub address : {i j : ℕ} → ifLocal τs i (λ τ. Then (HasType τ (pointer W 𝓣 τs bs j)) (λ _. Runs W 𝓣 τs bs b q (putAt τs ls i (pointer W 𝓣 τs bs j))))
+  pub address : {i j : ℕ}
+      → ifLocal τs i (λ τ. Then (HasType τ (pointer W 𝓣 τs bs j)) (λ _. Runs W 𝓣 τs bs b q (putAt τs ls i (pointer W 𝓣 τs bs j))))
       → Runs W 𝓣 τs bs (seq (assign (place i []) (addrOf (place j []))) b) q ls
   address {i} {j} k =
       let v = pointer W 𝓣 τs bs j in
@@ -338,7 +342,8 @@ module _ {M : Type 1} {𝓤 : URA M} {H : Heap 𝓤} {A : Atoms 𝓤} {W : Given
       let os = opds-of W 𝓣 τs bs j ls xs (λ us. Then (us ≡ pointer W 𝓣 τs bs j ∷ vals (F .Ps) a) (λ _. Lands)) k in
       let l = if-local τs i (λ τ. Then (τ ≡ ty (F .R)) (λ _. Go-on)) (two (os .2)) in
       lends-at W 𝓣 τs bs T F f met j ls t a here fit is is-a need q b xs i
-      (λ I. subst (λ (us : List Val). Opds (Go {0}) W (Away W 𝓣 τs bs j ls I) (env W τs bs) xs us) (one (os .2)) (os .1 I)) (l .0) (one (l .1)) (two (l .1))
+      (λ I. subst (λ (us : List Val). Opds (Go {0}) W (Away W 𝓣 τs bs j ls I) (env W τs bs) xs us) (one (os .2)) (os .1 I))
+      (l .0) (one (l .1)) (two (l .1))
 
 -- ---- a function by value, from its body to its contract
 abbrev pub Gives : (F : PlainFn) → Args (F .Ps) → Val → Unit {0} → Type 2
@@ -407,7 +412,8 @@ module _ {M : Type 1} (𝓤 : URA M) (H : Heap 𝓤) (A : Atoms 𝓤) (W : Given
       walk : (a : Args (F .Ps)) (is-a : AreOf (F .Ps) a) → Asked (F .pre) a → ent 𝓤 (emp 𝓤) (Run (vals (F .Ps) a) (Post a is-a))
       walk a is-a need =
           runs-body W 𝓣 (Unit {0}) no-item [] f (ty (F .R)) (tys (F .Ps) ++ ρs) shape-is (vals (F .Ps) a)
-          (have-types 𝓤 H A W (F .Ps) ρs a is-a) (emp 𝓤) (Unit {0}) tt opening (Post a is-a) (λ x bs. ok a is-a need bs (End a is-a bs) (finish a is-a bs) .run .prf)
+          (have-types 𝓤 H A W (F .Ps) ρs a is-a) (emp 𝓤) (Unit {0}) tt opening (Post a is-a)
+          (λ x bs. ok a is-a need bs (End a is-a bs) (finish a is-a bs) .run .prf)
 
       module _ (κs : Lfts 0) where
         abbrev Ts : List RattleType
