@@ -107,7 +107,7 @@ module _ {M : Type 1} {𝓤 : URA M} {H : Heap 𝓤} {A : Atoms 𝓤} (W : Given
     Held t = sep 𝓤 (mean 𝓤 H A (item t)) (Stars W fr)
 
     module _ (τs : List Ty) (bs : Blocks τs) where
-      abbrev Whole : D → Locals → SProp 𝓤
+      abbrev pub Whole : D → Locals → SProp 𝓤
       Whole t ls = Stars W (Context W 𝓣 D item fr τs bs (t, ls))
 
       puts-in : (t : D) (ls : Locals) → ent 𝓤 (Framed τs bs ls (Held t)) (Whole t ls)
@@ -130,7 +130,7 @@ module _ {M : Type 1} {𝓤 : URA M} {H : Heap 𝓤} {A : Atoms 𝓤} (W : Given
           move ! (2 ∷ 0 ∷ []) $ join ! $ move ! (0 ∷ 2 ∷ 1 ∷ []) $ done !
 
       -- the result is read, and the locals are freed
-      ends : (Fin : Val → D → Type 2) (Kf : Val → SProp 𝓤) → ((v : Val) (t : D) → Fin v t → ent 𝓤 (Held t) (Kf v))
+      pub ends : (Fin : Val → D → Type 2) (Kf : Val → SProp 𝓤) → ((v : Val) (t : D) → Fin v t → ent 𝓤 (Held t) (Kf v))
           → (o : Out) (s : D × Locals) → Done τs Fin o s → ent 𝓤 (Whole (s .0) (s .1)) (atReturn 𝓤 H (env W τs bs) Kf o)
       ends Fin Kf fin next s k = elim k [ ]
       ends Fin Kf fin (exits n) s k = elim k [ ]
@@ -142,7 +142,7 @@ module _ {M : Type 1} {𝓤 : URA M} {H : Heap 𝓤} {A : Atoms 𝓤} (W : Given
           (via 𝓤 (sep 𝓤 L (Held (s .0))) (takes-out (s .0) (s .1))
           (via 𝓤 (sep 𝓤 L (Kf (one k))) (monoR 𝓤 L (fin (one k) (s .0) (two (two k)))) (frees-all τs bs (s .1) (Kf (one k)))))
 
-  abbrev Runs : Tables 𝓤 H → Fn → (Val → SProp 𝓤) → (τs : List Ty) → Blocks τs → SProp 𝓤
+  abbrev pub Runs : Tables 𝓤 H → Fn → (Val → SProp 𝓤) → (τs : List Ty) → Blocks τs → SProp 𝓤
   Runs 𝓣 f Kf τs bs = Wp 𝓤 H (𝓣 .C) (𝓣 .Λ) (env W τs bs) (f .body) (atReturn 𝓤 H (env W τs bs) Kf)
 
   -- from P, which opens, for some x, to what is held and to a fact φ, the function f runs to Kf
@@ -150,13 +150,14 @@ module _ {M : Type 1} {𝓤 : URA M} {H : Heap 𝓤} {A : Atoms 𝓤} (W : Given
     abbrev HeldAt : X → D → SProp 𝓤
     HeldAt x t = Held 𝓣 D (item x) (fr x) t
 
-    pub runs-opened : (f : Fn) (τ : Ty) (σs : List Ty) → tysOf (f .locals) ≡ τ ∷ σs → (vs : List Val) → HaveTypes σs vs
-        → (P : SProp 𝓤) (φ : Type 0) (t : D) → ent 𝓤 P (H .⇛ (ex 𝓤 (λ (x : X). guard 𝓤 φ (HeldAt x t))))
-        → (Fin : Val → D → Type 2) (Kf : Val → SProp 𝓤) → ((x : X) (v : Val) (t′ : D) → Fin v t′ → ent 𝓤 (HeldAt x t′) (Kf v))
-        → ((x : X) → φ → Ok W 𝓣 D (item x) (fr x) (τ ∷ σs) (f .body) (Done 𝓣 D (item x) (fr x) (τ ∷ σs) Fin) (t, none ∷ somes vs))
+    -- where its body does
+    pub body-opened : (f : Fn) (τ : Ty) (σs : List Ty) → tysOf (f .locals) ≡ τ ∷ σs → (vs : List Val) → HaveTypes σs vs
+        → (P : SProp 𝓤) (φ : Type 0) (t : D) → ent 𝓤 P (H .⇛ (ex 𝓤 (λ (x : X). guard 𝓤 φ (HeldAt x t)))) → (Kf : Val → SProp 𝓤)
+        → ((x : X) → φ → (bs : Blocks (τ ∷ σs))
+        → ent 𝓤 (Whole 𝓣 D (item x) (fr x) (τ ∷ σs) bs t (none ∷ somes vs)) (Runs 𝓣 f Kf (τ ∷ σs) bs))
         → ent 𝓤 P (WpFn 𝓤 H (𝓣 .C) (𝓣 .Λ) f vs Kf)
     unfolding WpFn
-    runs-opened f τ σs shape vs typed P φ t opening Fin Kf fin ok =
+    body-opened f τ σs shape vs typed P φ t opening Kf runs =
         allocs-all (f .locals) P (λ E. params 𝓤 H E vs (Wp 𝓤 H (𝓣 .C) (𝓣 .Λ) E (f .body) (atReturn 𝓤 H E Kf)))
         (subst (λ (τs : List Ty). (bs : Blocks τs) → ent 𝓤 (Framed τs bs [] P) (params 𝓤 H (env W τs bs) vs (Runs 𝓣 f Kf τs bs))) (sym shape) enters)
       where
@@ -178,17 +179,35 @@ module _ {M : Type 1} {𝓤 : URA M} {H : Heap 𝓤} {A : Atoms 𝓤} (W : Given
             use1 W (later (some (λ (x : X). given φ (raw (HeldAt x t))))) opening $ await ! tt $ pick ! (λ x. learn ! (λ h.
             move ! (2 ∷ 1 ∷ []) $ join ! $
             use2 W (raw (Whole 𝓣 D (item x) (fr x) (τ ∷ σs) bs t start)) (puts-in 𝓣 D (item x) (fr x) (τ ∷ σs) bs t start) $
-            by ! (ok-runs W 𝓣 D (item x) (fr x) (τ ∷ σs) bs (f .body) (Done 𝓣 D (item x) (fr x) (τ ∷ σs) Fin) (atReturn 𝓤 H (env W (τ ∷ σs) bs) Kf)
-            (ends 𝓣 D (item x) (fr x) (τ ∷ σs) bs Fin Kf (fin x)) (t, start) (ok x h) .prf)))))
+            by ! (runs x h bs)))))
+
+    pub runs-opened : (f : Fn) (τ : Ty) (σs : List Ty) → tysOf (f .locals) ≡ τ ∷ σs → (vs : List Val) → HaveTypes σs vs
+        → (P : SProp 𝓤) (φ : Type 0) (t : D) → ent 𝓤 P (H .⇛ (ex 𝓤 (λ (x : X). guard 𝓤 φ (HeldAt x t))))
+        → (Fin : Val → D → Type 2) (Kf : Val → SProp 𝓤) → ((x : X) (v : Val) (t′ : D) → Fin v t′ → ent 𝓤 (HeldAt x t′) (Kf v))
+        → ((x : X) → φ → Ok W 𝓣 D (item x) (fr x) (τ ∷ σs) (f .body) (Done 𝓣 D (item x) (fr x) (τ ∷ σs) Fin) (t, none ∷ somes vs))
+        → ent 𝓤 P (WpFn 𝓤 H (𝓣 .C) (𝓣 .Λ) f vs Kf)
+    runs-opened f τ σs shape vs typed P φ t opening Fin Kf fin ok =
+        body-opened f τ σs shape vs typed P φ t opening Kf (λ x h bs.
+        ok-runs W 𝓣 D (item x) (fr x) (τ ∷ σs) bs (f .body) (Done 𝓣 D (item x) (fr x) (τ ∷ σs) Fin) (atReturn 𝓤 H (env W (τ ∷ σs) bs) Kf)
+        (ends 𝓣 D (item x) (fr x) (τ ∷ σs) bs Fin Kf (fin x)) (t, none ∷ somes vs) (ok x h) .prf)
 
   -- the same, where there is but one way to open P
   module _ (𝓣 : Tables 𝓤 H) (D : Type 0) (item : D → Item 𝓤) (fr : List (Item 𝓤)) where
+    pub runs-body : (f : Fn) (τ : Ty) (σs : List Ty) → tysOf (f .locals) ≡ τ ∷ σs → (vs : List Val) → HaveTypes σs vs
+        → (P : SProp 𝓤) (φ : Type 0) (t : D) → ent 𝓤 P (H .⇛ (guard 𝓤 φ (Held 𝓣 D item fr t))) → (Kf : Val → SProp 𝓤)
+        → (φ → (bs : Blocks (τ ∷ σs)) → ent 𝓤 (Whole 𝓣 D item fr (τ ∷ σs) bs t (none ∷ somes vs)) (Runs 𝓣 f Kf (τ ∷ σs) bs))
+        → ent 𝓤 P (WpFn 𝓤 H (𝓣 .C) (𝓣 .Λ) f vs Kf)
+    runs-body f τ σs shape vs typed P φ t opening Kf runs =
+        let One : SProp 𝓤 = guard 𝓤 φ (Held 𝓣 D item fr t) in
+        body-opened 𝓣 D (Unit {0}) (λ _. item) (λ _. fr) f τ σs shape vs typed P φ t
+        (via 𝓤 (H .⇛ One) opening (W .laws .⇛-mono _ _ (exI 𝓤 (λ (x : Unit {0}). One) tt))) Kf (λ _. runs)
+
     pub runs-fn : (f : Fn) (τ : Ty) (σs : List Ty) → tysOf (f .locals) ≡ τ ∷ σs → (vs : List Val) → HaveTypes σs vs
         → (P : SProp 𝓤) (φ : Type 0) (t : D) → ent 𝓤 P (H .⇛ (guard 𝓤 φ (Held 𝓣 D item fr t)))
         → (Fin : Val → D → Type 2) (Kf : Val → SProp 𝓤) → ((v : Val) (t′ : D) → Fin v t′ → ent 𝓤 (Held 𝓣 D item fr t′) (Kf v))
         → (φ → Ok W 𝓣 D item fr (τ ∷ σs) (f .body) (Done 𝓣 D item fr (τ ∷ σs) Fin) (t, none ∷ somes vs))
         → ent 𝓤 P (WpFn 𝓤 H (𝓣 .C) (𝓣 .Λ) f vs Kf)
     runs-fn f τ σs shape vs typed P φ t opening Fin Kf fin ok =
-        let One : SProp 𝓤 = guard 𝓤 φ (Held 𝓣 D item fr t) in
-        runs-opened 𝓣 D (Unit {0}) (λ _. item) (λ _. fr) f τ σs shape vs typed P φ t
-        (via 𝓤 (H .⇛ One) opening (W .laws .⇛-mono _ _ (exI 𝓤 (λ (x : Unit {0}). One) tt))) Fin Kf (λ _. fin) (λ _. ok)
+        runs-body f τ σs shape vs typed P φ t opening Kf (λ x bs.
+        ok-runs W 𝓣 D item fr (τ ∷ σs) bs (f .body) (Done 𝓣 D item fr (τ ∷ σs) Fin) (atReturn 𝓤 H (env W (τ ∷ σs) bs) Kf)
+        (ends 𝓣 D item fr (τ ∷ σs) bs Fin Kf fin) (t, none ∷ somes vs) (ok x) .prf)

@@ -60,7 +60,7 @@ abbrev pub asked : {M : Type 1} (𝓤 : URA M) {X : Type 0} → Pre X → X → 
 asked 𝓤 always x = emp 𝓤
 asked 𝓤 (where-holds φ) x = fact 𝓤 (φ x)
 
-asked-out : {M : Type 1} (𝓤 : URA M) {X : Type 0} (p : Pre X) (x : X) (P : SProp 𝓤) {Q : SProp 𝓤} → (Asked p x → ent 𝓤 P Q)
+pub asked-out : {M : Type 1} (𝓤 : URA M) {X : Type 0} (p : Pre X) (x : X) (P : SProp 𝓤) {Q : SProp 𝓤} → (Asked p x → ent 𝓤 P Q)
     → ent 𝓤 (sep 𝓤 P (asked 𝓤 p x)) Q
 asked-out 𝓤 always x P h = via 𝓤 P (fst∗ 𝓤 P (emp 𝓤)) (h tt)
 asked-out 𝓤 (where-holds φ) x P h = needs 𝓤 (φ x) P h
@@ -342,11 +342,11 @@ module _ {M : Type 1} (𝓤 : URA M) (H : Heap 𝓤) (A : Atoms 𝓤) (W : Given
           (WpFn-mono 𝓤 H (W .laws) 𝓣 f) (walks-it walk)
 
 -- the types of the locals past the parameters
-abbrev past : List Ty → List Ty
+abbrev pub past : List Ty → List Ty
 past [] = []
 past (τ ∷ τs) = τs
 
-abbrev skip : List Plain → List Ty → List Ty
+abbrev pub skip : List Plain → List Ty → List Ty
 skip [] τs = τs
 skip (P ∷ Ps) τs = skip Ps (past τs)
 

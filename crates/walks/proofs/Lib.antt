@@ -5,6 +5,7 @@ pub mod Element
 pub mod Frame
 pub mod Lent
 pub mod Locals
+pub mod Own
 pub mod Parts
 pub mod Plain
 pub mod Shared

@@ -72,10 +72,10 @@ abbrev IsNone : Option Val → Type 0
 IsNone none = Unit {0}
 IsNone (Opt.some v) = ⊥
 
-none-some : {v : Val} → none ≡ Opt.some v → ⊥
+pub none-some : {v : Val} → none ≡ Opt.some v → ⊥
 none-some e = subst IsNone e tt
 
-at-in : (τs : List Ty) (ls : Locals) (i : ℕ) (v : Val) → valAt τs ls i ≡ Opt.some v → IsIn τs i
+pub at-in : (τs : List Ty) (ls : Locals) (i : ℕ) (v : Val) → valAt τs ls i ≡ Opt.some v → IsIn τs i
 at-in [] ls i v e = absurd (none-some e)
 at-in (τ ∷ τs) [] i v e = absurd (none-some e)
 at-in (τ ∷ τs) (x ∷ ls) zero v e = tt

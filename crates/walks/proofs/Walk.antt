@@ -67,7 +67,7 @@ ifLocal [] i K = Stuck
 ifLocal (τ ∷ τs) zero K = K τ
 ifLocal (τ ∷ τs) (suc i) K = ifLocal τs i K
 
-if-local : (τs : List Ty) (i : ℕ) (K : Ty → Type 2) → ifLocal τs i K → IsIn τs i × K (getD τs i noTy)
+pub if-local : (τs : List Ty) (i : ℕ) (K : Ty → Type 2) → ifLocal τs i K → IsIn τs i × K (getD τs i noTy)
 if-local [] i K k = elim k [ ]
 if-local (τ ∷ τs) zero K k = (tt, k)
 if-local (τ ∷ τs) (suc i) K k = if-local τs i K k
