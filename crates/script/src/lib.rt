@@ -8,9 +8,13 @@ use text_print::put_bad_line;
 use text_print::put_reply;
 use text_print::put_single;
 use text_print::put_too_long;
+ghost use mathlib.Core.Bool.{true};
 ghost use mathlib.Core.List.{_∷_, []};
+ghost use mathlib.Core.Path.{_≡_};
 ghost use Prim.Native.Nat.{_+_, _≤_, _<_};
 ghost use lib.ListN.{length, drop};
+ghost use Rattle.table.specs.Rows.{Sized};
+ghost use Rattle.table.specs.Sound.{tableSound};
 ghost use Rattle.text.specs.Line.{linesOf, lineOf};
 ghost use Rattle.text.specs.Printing.{Put};
 ghost use Rattle.text.specs.Script.{run as Script·run, sized, answer as Script·answer};
@@ -76,8 +80,9 @@ fn second(desks: u32, cells: u32, s: &[u8], at: usize, out: &mut [u8]) -> usize
     run(made.table, s, two.next, out)
 }
 
-// The answer to the events.
+// The answer to the events. A fresh table is sound and every event keeps it so: none is tested.
 fn run(t: Table, s: &[u8], start: usize, out: &mut [u8]) -> usize
+    requires { ⌜ (tableSound t ≡ true) × Sized t ⌝ }
     requires { ⌜ length (now s) ≤ 65536 ⌝ }
     requires { ⌜ 270400 ≤ length (now out) ⌝ }
     ensures { λ r. ⌜ Put (Script·run setUp event t 3 (linesOf (drop start (now (s .entry))))) (now (out .entry)) 0 (now (out .exit)) r ⌝ }
@@ -102,7 +107,7 @@ fn run(t: Table, s: &[u8], start: usize, out: &mut [u8]) -> usize
             cell,
             word,
         };
-        let done = table_event::event(table, e);
+        let done = table_next::next(table, e);
         table = done.after;
         let reply = done.reply;
         o = put_line(reply, out, o);

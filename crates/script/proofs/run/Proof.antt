@@ -4,6 +4,7 @@
 use borrow.Author.Needs.{needs}
 use native.Mathlib.Omega.{arith}
 use mathlib.Core.Path.{_≡_, sym, ap, _∙_}
+use mathlib.Core.Bool.{true}
 use mathlib.Core.List.{List, [], _∷_}
 use Prim.Native.Nat.{ℕ, _+_, _-_, _≤_}
 use lib.ListN.{length, take, drop, getD}
@@ -18,7 +19,10 @@ use Rattle.text.specs.Printing.{Put}
 use Rattle.text.specs.Walk.{Walked, walked-start, walked-length, walked-turn, walked-bad, walked-end}
 use Rattle.table.specs.declared.Table.{Table}
 use Rattle.table.specs.declared.Outcome.{Outcome}
+use Rattle.table.specs.Kept.{event-sized, event-sound}
+use Rattle.table.specs.Rows.{Sized}
 use Rattle.table.specs.Rules.{eventRule}
+use Rattle.table.specs.Sound.{tableSound}
 use Rattle.script.specs.Rules.{eventOf, setUp, event}
 use Rattle.script.proofs.run.Statement.{statement}
 use Rattle.script.proofs.run.Tie as tie
@@ -48,12 +52,13 @@ turn s {t = t} {at = at} l x w q e outcome p short =
 abbrev Inv-loop : tie.InvT-loop
 Inv-loop s start out₀ table₀ at₀ n₀ o₀ out table at n o =
     Walked setUp event s (run setUp event table₀ 3 (linesOf (drop start s))) out₀ table n at out o × (o ≤ 270400)
+    × (tableSound table ≡ true) × Sized table
 
 abbrev μ-loop : tie.MeasureT-loop
 μ-loop s start out₀ table₀ at₀ n₀ o₀ out table at n o = length s - at
 
 loop-holds : tie.Need-loop-holds Inv-loop μ-loop
-loop-holds c = let a = c .before .before .args in (walked-start setUp event (a .s .now) (a .out .now) (a .t) (a .start), omega arith)
+loop-holds c = let a = c .before .before .args in (walked-start setUp event (a .s .now) (a .out .now) (a .t) (a .start), omega arith, c .before .before .pre .0 .0, c .before .before .pre .0 .1)
 
 read-line-requires : tie.Need-read-line-requires Inv-loop μ-loop
 read-line-requires c κs = search needs
@@ -95,8 +100,8 @@ element-copy-out-cell c = search needs
 element-copy-out-word : tie.Need-element-copy-out-word Inv-loop μ-loop
 element-copy-out-word c = search needs
 
-event-requires : tie.Need-event-requires Inv-loop μ-loop
-event-requires c κs = search needs
+next-requires : tie.Need-next-requires Inv-loop μ-loop
+next-requires c κs = c .before .before .before .before .before .before .before .loop .inv .2
 
 put-line-requires : tie.Need-put-line-requires Inv-loop μ-loop
 put-line-requires c κs =
@@ -124,11 +129,13 @@ loop-again c =
     let at-loop = in-loop .before in
     let line = c .before .before .before .before .before .before .before .before .before .before .before .before .read-line in
     let four = c .before .before .before .before .before .before .before .before .before .before .before .if1 .left in
-    let x = c .before .before .before .before .before .before .event in
+    let x = c .before .before .before .before .before .before .next in
     let put = c .before .before .put-line .ensures in
     let w = at-loop .loop .inv .0 in (
       turn (at-loop .before .before .before .args .s .now) (line .result) (x .result) w (line .ensures) four (x .ensures) (put .0) (put .1),
-      omega (arith, w .room, in-loop .loop-test .taken, at-loop .before .before .before .pre .0, put .1),
+      omega (arith, w .room, in-loop .loop-test .taken, at-loop .before .before .before .pre .1 .0, put .1),
+      rw (x .ensures) (event-sound (at-loop .loop .table) _ (at-loop .loop .inv .3) (at-loop .loop .inv .2)),
+      rw (x .ensures) (event-sized (at-loop .loop .table) _ (at-loop .loop .inv .3)),
     )
 
 same-length-2 : tie.Need-same-length-2 Inv-loop μ-loop
@@ -154,7 +161,7 @@ run-spec =
     element-copy-out-desk
     element-copy-out-cell
     element-copy-out-word
-    event-requires
+    next-requires
     put-line-requires
     add-n
     loop-less

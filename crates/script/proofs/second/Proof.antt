@@ -5,7 +5,7 @@ use native.Mathlib.Omega.{arith}
 use mathlib.Core.Path.{_≡_, sym, ap, ap₂, _∙_}
 use mathlib.Core.List.{List, []}
 use Prim.Native.Nat.{ℕ, _≤_, _<_}
-use lib.ListN.{drop}
+use lib.ListN.{length, drop}
 use mir.Syntax.{w32}
 use mir.Val.{Fits}
 use Rattle.text.specs.Line.{linesOf, badLine}
@@ -14,8 +14,10 @@ use Rattle.text.specs.Script.{sized, started}
 use Rattle.text.specs.OneLine.{length-line, length-bad-line}
 use Rattle.text.specs.Walk.{second-bad, second-read, started-refused, started-run}
 use Rattle.text.specs.declared.Line.{Line}
+use Rattle.desk.specs.declared.Plan.{Plan}
 use Rattle.table.specs.declared.Table.{Table}
 use Rattle.table.specs.declared.SetUp.{SetUp}
+use Rattle.table.specs.Fresh.{set-up-sized, set-up-sound}
 use Rattle.table.specs.SetUp.{setUpRule}
 use Rattle.script.specs.Rules.{setUp, event}
 use Rattle.script.proofs.second.Statement.{statement}
@@ -91,7 +93,12 @@ returns-2 c =
     )
 
 run-requires : tie.Need-run-requires
-run-requires c κs = c .before .before .before .before .before .before .before .before .before .pre .1
+run-requires c κs =
+    let start = c .before .before .before .before .before .before .before .before .before in
+    let m = c .before .before .set-up in
+    let long : length (c .before .before .before .before .before .before .read-line .result .n) ≡ 32 = search (needs, c .before .before .before .before .before .before .read-line .ok .1 .1 .1 .0) in
+    let plan : Plan = record { desks = start .args .desks; cells = start .args .cells; keepers = c .before .before .before .before .before .before .read-line .result .n } in
+    ((rw (m .ensures) (set-up-sound plan long (rw (← m .ensures) (c .before .if2 .left))), rw (m .ensures) (set-up-sized plan long)), start .pre .1)
 
 same-length-3 : tie.Need-same-length-3
 same-length-3 c = search needs
