@@ -18,5 +18,5 @@ cwmorlais-table-event-spec 𝓤 H 𝓜 𝓖 𝓡 =
     calling 𝓤 H 𝓜 𝓖 𝓡 code.env parts.table steps.whole key.name code.function (code.unfolded 𝓤 H 𝓜 𝓡) refl
     (λ κ q b o γ t a is-a is need.
     let met = lent 𝓤 H 𝓜 𝓖 𝓡 code.env parts.table steps.whole event.name event.routine code.calls-table-step·event
-        (event-thm.met 𝓤 H 𝓜 𝓖 𝓡) κ q b o γ in
+    (event-thm.met 𝓤 H 𝓜 𝓖 𝓡) κ q b o γ in
     (tt, tt) ⨟ _ ⨟ met ⨟ a ⨟ (is-a, tt) ⨟ refl ⨟ refl ⨟ λ is-r. _ ⨟ refl ⨟ (refl, is-r, refl, tt))
