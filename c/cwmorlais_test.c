@@ -1,5 +1,5 @@
 /* 01's whole case, played by three desks that lend their records and send each other frames, and on a lent table beside them; and refusals,
- * which leave what is lent as it was. The compiler holds the header to the places of crates/cwmorlais/proofs/Places.antt. No header of the C
+ * which leave what is lent as it was; and the stack that calls use. The compiler holds the header to the places of crates/cwmorlais/proofs/Places.antt. No header of the C
  * library is used, so any C compiler for x86-64 will do. */
 #include <stddef.h>
 
@@ -327,7 +327,11 @@ static void measure_stack(void) {
             paint(), cwmorlais_frame_write(&a.message, under_way[e.desk], CWMORLAIS_FRAME_BYTES), write = most_used(write);
         }
     }
-    printf("stack: start %d, event %d, serve %d, bring %d, read %d, write %d, set_up %d, table_event %d\n", (int)start, (int)event, (int)serve, (int)bring, (int)read, (int)write, (int)set_up, (int)table_event);
+    printf("stack: start %td, event %td, serve %td, bring %td, read %td, write %td, set up %td, table event %td\n", start, event, serve, bring,
+        read, write, set_up, table_event);
+    EXPECT(start <= CWMORLAIS_START_STACK_BYTES && set_up <= CWMORLAIS_SET_UP_STACK_BYTES);
+    EXPECT(event <= CWMORLAIS_STACK_BYTES && serve <= CWMORLAIS_STACK_BYTES && bring <= CWMORLAIS_STACK_BYTES);
+    EXPECT(read <= CWMORLAIS_STACK_BYTES && write <= CWMORLAIS_STACK_BYTES && table_event <= CWMORLAIS_STACK_BYTES);
 }
 
 int main(void) {

@@ -1,11 +1,13 @@
-/* Cwmorlais: 1 to 8 desks share 1 to 32 cells, each cell kept by one desk. Link with target/staticlib/libcwmorlais.a (x86-64).
+/* Cwmorlais: 1 to 8 desks share 1 to 32 cells, each cell kept by one desk. Link with target/staticlib/libcwmorlais.a, which
+ * is ELF for x86-64 and the System V ABI.
  *
  * A desk's program has the desk's record and the frames, and sends the frames itself. A program that plays all desks in one place has the
  * table instead. Every function is proved to do what docs/PROMISES.md says, on every input. What a caller owes is what C cannot say:
  *   - what a pointer names is the caller's own (aligned as its type says, an array as long as said), and nobody else uses it until the
  *     function returns; what is const is only read;
  *   - a bool is 0 or 1, also in a record or a table that was read from a file.
- * Nothing is kept and nothing is freed. Bytes between fields have no meaning: compare field by field.
+ * Nothing is kept and nothing is freed. Bytes between fields have no meaning and may change in a call: compare field by field. All 32 keepers of
+ * a plan are read, however few cells it has.
  *
  * A later version appends fields to a struct, small ones where its padding is: each field keeps its place in its struct, but structs may
  * grow, so compile with the header that came with the library.
@@ -29,6 +31,12 @@
 #ifdef __cplusplus
 extern "C" {
 #endif
+
+/* Stack that is enough for a call, in bytes, beside what it returns and is handed by value. c/test measures it: an event takes 250, a desk's
+ * step 440 to 560, a frame 140. Starting and setting up make what they return first, and take 3,250 and 11,190. */
+#define CWMORLAIS_STACK_BYTES 1024
+#define CWMORLAIS_START_STACK_BYTES 4096
+#define CWMORLAIS_SET_UP_STACK_BYTES 12288
 
 /* The longest frame: 2 bytes of length, 5 of head, a word and 8 clock numbers. */
 #define CWMORLAIS_FRAME_BYTES 43
