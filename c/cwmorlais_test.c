@@ -1,5 +1,6 @@
 /* 01's whole case, played by three desks that lend their records and send each other frames, and on a lent table beside them; and refusals,
- * which leave what is lent as it was; and the stack that calls use. The compiler holds the header to the places of crates/cwmorlais/proofs/Places.antt. No header of the C
+ * which leave what is lent as it was; and the stack that calls use. The compiler holds the header to the places of
+ * crates/cwmorlais/proofs/Places.antt. No header of the C
  * library is used, so any C compiler for x86-64 will do. */
 #include <stddef.h>
 

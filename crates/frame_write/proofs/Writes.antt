@@ -1,19 +1,42 @@
 -- What writing comes to, once the head has no fault: the refusals that are left, and the frame in two parts.
 -- Assumes nothing.
+use borrow.Author.Tests.{ltb-true, ltb-false, lt-ltb, le-ltb}
 use native.Mathlib.Omega.{arith}
 use mathlib.Core.Path.{_≡_, refl, sym, ap, ap₂, _∙_}
-use mathlib.Core.Bool.{Bool, true, false}
+use mathlib.Core.Bool.{Bool, true, false, _&&_, _||_}
 use mathlib.Core.List.{List, _∷_, _++_}
-use Prim.Native.Nat.{ℕ, _+_, _*_, _<_, _≤_}
-use lib.ListN.{length, drop}
-use Rattle.theory_lists.specs.Each.{mapAt}
+use Prim.Native.Nat.{ℕ, suc, _+_, _*_, _<_, _≤_}
+use lib.Dec.{eqb, ltb}
+use lib.ListN.{length, getD, drop}
+use Rattle.theory_lists.specs.Each.{mapAt, mapAt-same}
 use Rattle.theory_lists.specs.Test.{every}
 use Rattle.spelling.specs.Bytes.{bytes, spell, put, put-next}
 use Rattle.desk.specs.declared.Message.{Message}
 use Rattle.frame.specs.Frame.{carried, lengthOf, faultIn, carriedOrZero, wellFormed, frameOf, writeRule, outputRule}
 use Rattle.frame.specs.Laws.{faultless, called, headOf, bodyOf, frame-split, not-well-formed, no-room, can-write, write-refused, write-accepted}
 
--- the message m into the output l, of which c numbers are carried
+-- ---- the numbers that are not carried
+later : (n k : ℕ) (b : Bool) → ltb k n ≡ b → ltb (suc k) (1 + n) ≡ ltb k n
+later n k true e = lt-ltb (suc k) (1 + n) (omega (arith, ltb-true k n e)) ∙ sym e
+later n k false e = le-ltb (suc k) (1 + n) (omega (arith, ltb-false k n e)) ∙ sym e
+
+never : (k : ℕ) → ltb (suc k) 0 ≡ ltb k 0
+never k = le-ltb (suc k) 0 (omega arith) ∙ sym (le-ltb k 0 (omega arith))
+
+-- "a clock number past the count … not 0": the word is carried, and after it n numbers
+pub past-count : (n word : ℕ) (ns : List ℕ) → every (mapAt (carriedOrZero (1 + n)) (word ∷ ns)) ≡ every (mapAt (carriedOrZero n) ns)
+unfolding mapAt every carriedOrZero
+past-count n word ns = rw (lt-ltb 0 (1 + n) (omega arith)) (ap every (mapAt-same (λ k. carriedOrZero (1 + n) (suc k)) (carriedOrZero n) ns 0
+    (λ k h. ap (λ (b : Bool). b || eqb (getD ns k 0) 0) (later n k (ltb k n) refl))))
+
+-- "a word or clock in kind 1": none is carried
+pub none-carried : (word : ℕ) (ns : List ℕ) → every (mapAt (carriedOrZero 0) (word ∷ ns)) ≡ (eqb word 0 && every (mapAt (carriedOrZero 0) ns))
+unfolding mapAt every carriedOrZero
+none-carried word ns =
+    ap (λ (l : List Bool). eqb word 0 && every l) (mapAt-same (λ k. carriedOrZero 0 (suc k)) (carriedOrZero 0) ns 0
+    (λ k h. ap (λ (b : Bool). b || eqb (getD ns k 0) 0) (never k)))
+
+-- ---- the message m into the output l, of which c numbers are carried
 module _ (m : Message) (l : List ℕ) (c : ℕ) (e : c ≡ carried (m .kind) (m .desks)) (ok : faultIn m ≡ 0) where
   pub size : (lengthOf (m .kind) (m .desks) ≡ 5 + 4 * c) × (c ≤ 9)
   size = called (faultless _ _ _ _ ok) e

@@ -43,7 +43,7 @@ fn bare(out: &mut [u8], desks: u8, desk: u8, cell: u8, word: u32, clock: Clock) 
     requires { ⌜ faultOf 1 desks desk cell ≡ 0 ⌝ }
     ensures { λ r. ⌜ (r ≡ writeRule (given 1 desks desk cell word clock) (now (out .entry))) × (now (out .exit) ≡ outputRule (given 1 desks desk cell word clock) (now (out .entry))) ⌝ }
 {
-    if !rest_is_zero(word, clock, 0) {
+    if !((word == 0) & zero_from(clock, 0)) {
         return Written { code: 38, used: 0 };
     }
     if out.len() < 7 {
@@ -66,10 +66,11 @@ fn whole(
     requires { ⌜ (kind ≡ 1 → ⊥) × (faultOf kind desks desk cell ≡ 0) ⌝ }
     ensures { λ r. ⌜ (r ≡ writeRule (given kind desks desk cell word clock) (now (out .entry))) × (now (out .exit) ≡ outputRule (given kind desks desk cell word clock) (now (out .entry))) ⌝ }
 {
-    let c = 1 + desks as usize;
-    if !rest_is_zero(word, clock, c) {
+    let n = desks as usize;
+    if !zero_from(clock, n) {
         return Written { code: 38, used: 0 };
     }
+    let c = 1 + n;
     if out.len() < 7 + 4 * c {
         return Written { code: 37, used: 0 };
     }
@@ -82,13 +83,14 @@ fn whole(
     }
 }
 
-// Whether the word and the clock's numbers are 0 from place c on: they are not sent, so nothing may be lost with them.
-fn rest_is_zero(word: u32, clock: Clock, c: usize) -> bool
-    ensures { λ r. ⌜ r ≡ every (mapAt (carriedOrZero c) (word ∷ clock .n)) ⌝ }
+// Whether the clock's numbers are 0 from place n on: they are not sent, so nothing may be lost with them.
+fn zero_from(clock: Clock, n: usize) -> bool
+    requires { ⌜ n ≤ 8 ⌝ }
+    ensures { λ r. ⌜ r ≡ every (mapAt (carriedOrZero n) (clock .n)) ⌝ }
 {
-    let mut zero = (0 < c) | (word == 0);
-    for k in 0..8 {
-        zero = zero & ((k + 1 < c) | (clock.n[k] == 0));
+    let mut zero = true;
+    for k in n..8 {
+        zero = zero & (clock.n[k] == 0);
     }
     zero
 }

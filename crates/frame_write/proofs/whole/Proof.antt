@@ -7,8 +7,9 @@ use mathlib.Core.Path.{_≡_, refl, sym, _∙_}
 use Prim.Native.Nat.{ℕ, _+_}
 use Rattle.desk.specs.declared.Message.{Message}
 use Rattle.frame.specs.Frame.{carried}
+use Rattle.frame.specs.Laws.{faultless}
 use Rattle.frame_write.specs.Given.{given}
-use Rattle.frame_write.proofs.Writes.{size, unclean, roomless, written}
+use Rattle.frame_write.proofs.Writes.{past-count, size, unclean, roomless, written}
 use Rattle.frame_write.proofs.whole.Statement.{statement}
 use Rattle.frame_write.proofs.whole.Tie as tie
 
@@ -26,15 +27,15 @@ counted s = all (s .args .kind) (s .args .desks) (s .pre .0)
 add-c : tie.Need-add-c
 add-c c = search needs
 
-rest-is-zero-requires : tie.Need-rest-is-zero-requires
-rest-is-zero-requires c κs = search needs
+zero-from-requires : tie.Need-zero-from-requires
+zero-from-requires c κs = faultless _ _ _ _ (c .before .pre .1) .desks-to
 
 returns : tie.Need-returns
 returns c =
     let at = c .before in
     let start = at .before .before in
     unclean (message start) (start .args .out .now) (1 + start .args .desks) (counted start) (start .pre .1)
-    (sym (at .rest-is-zero .ensures) ∙ not-true _ (c .if1 .taken))
+    (past-count _ _ _ ∙ sym (at .zero-from .ensures) ∙ not-true _ (c .if1 .taken))
 
 mul-if2 : tie.Need-mul-if2
 mul-if2 c = search needs
@@ -47,7 +48,7 @@ returns-2 c =
     let at = c .before .before in
     let start = at .before .before in
     roomless (message start) (start .args .out .now) (1 + start .args .desks) (counted start) (start .pre .1)
-    (sym (at .rest-is-zero .ensures) ∙ not-false _ (c .before .if1 .left)) (omega arith)
+    (past-count _ _ _ ∙ sym (at .zero-from .ensures) ∙ not-false _ (c .before .if1 .left)) (omega arith)
 
 mul-size : tie.Need-mul-size
 mul-size c = search needs
@@ -65,8 +66,8 @@ put-numbers-requires c κs =
       omega arith,
     )
 
-add-t13 : tie.Need-add-t13
-add-t13 c = search needs
+add-t14 : tie.Need-add-t14
+add-t14 c = search needs
 
 same-length : tie.Need-same-length
 same-length c = search needs
@@ -78,16 +79,16 @@ returns-3 c =
     let at = tested .before in
     let start = at .before .before in
     written (message start) (start .args .out .now) (1 + start .args .desks) (counted start) (start .pre .1)
-    (sym (at .rest-is-zero .ensures) ∙ not-false _ (tested .if1 .left)) (omega arith) _ _
+    (past-count _ _ _ ∙ sym (at .zero-from .ensures) ∙ not-false _ (tested .if1 .left)) (omega arith) _ _
     (headed .put-head .ensures) (c .before .before .put-numbers .ensures)
 
 pub whole-spec : {M : Type 1} → statement M
 whole-spec =
     tie.close
     (tie.spec
-    add-c
-    rest-is-zero-requires
+    zero-from-requires
     returns
+    add-c
     mul-if2
     add-if2
     returns-2
@@ -95,6 +96,6 @@ whole-spec =
     add-size
     put-head-requires
     put-numbers-requires
-    add-t13
+    add-t14
     same-length
     returns-3)
