@@ -26,28 +26,15 @@ use Rattle.desk.specs.declared.Step.{Step}
 use Rattle.desk.specs.Desk.{Word, noCell, pastCell, cellAt, placeAt, keptBy, keeps, heldCell, isCopy, isLost, leftAt, leftOf, lossOf}
 use Rattle.desk.specs.Kept.{holds-row, no-cell-rule}
 use Rattle.desk.specs.Parts.{changeOf, askedFor, askingSeat, raisedSeat, readReply, writeReply, ownReply, tookSeat, homeSeat}
-use Rattle.desk.specs.Parts.{broughtCell, losesIf, eventCode, serveCode, bringCode, inTray, requestFits, answerFits}
+use Rattle.desk.specs.Parts.{broughtCell, losesIf}
 use Rattle.desk.specs.Parts.{refusedAnswer, askedMessage, ownAnswer, servedAnswer, broughtAnswer}
 use Rattle.desk.specs.RuleLaws.{Allowed, allowed, Served, served, Brought, brought, own-is, serve-place}
 use Rattle.desk.specs.Rules.{withSeat, withRow, holds, answerOf, refused}
-use Rattle.desk.specs.Rules.{readRule, writeRule, dropRule, eventLines, eventRefusal, eventDone, eventRule}
-use Rattle.desk.specs.Rules.{ofTray, fitsServe, serveLines, serveRefusal, readServed, takes, writeServed, serveDone, serveRule}
-use Rattle.desk.specs.Rules.{fitsBring, bringLines, bringRefusal, brings, bringDone, bringRule}
+use Rattle.desk.specs.Rules.{readRule, writeRule, dropRule, eventRefusal, eventDone, eventRule}
+use Rattle.desk.specs.Rules.{serveRefusal, readServed, takes, writeServed, serveDone, serveRule}
+use Rattle.desk.specs.Rules.{bringRefusal, brings, bringDone, bringRule}
 use Rattle.desk.specs.Sound.{isSound}
 use Rattle.desk.specs.SoundLaws.{RowRule, SoundRule, sound-rule}
-
--- ---- what refuses
-pub event-code : (v : Record) (e : Event) → eventCode (isSound v) (v .tray) (v .desk) (v .seat) e ≡ eventRefusal v e
-unfolding eventCode eventRefusal eventLines
-event-code v e = refl
-
-pub serve-code : (v : Record) (m : Message) → serveCode (isSound v) (v .tray) (v .desk) m ≡ serveRefusal v m
-unfolding serveCode serveRefusal serveLines requestFits fitsServe inTray ofTray
-serve-code v m = refl
-
-pub bring-code : (v : Record) (m : Message) → bringCode (isSound v) (v .tray) (v .desk) (v .seat) m ≡ bringRefusal v m
-unfolding bringCode bringRefusal bringLines answerFits fitsBring inTray ofTray
-bring-code v m = refl
 
 -- ---- a sweep: the desk has lost its copies strictly before a clock, of its first n cells; and how many
 unfoldable pub lostTo : Record → Clock → ℕ → Record
@@ -290,14 +277,14 @@ turns v code done = go (eqb code 0) refl
           does = λ h. absurd (rw e at h);
         }
 
-pub event-turns : (v : Record) (e : Event) → Turns v (eventCode (isSound v) (v .tray) (v .desk) (v .seat) e) (eventDone v e) (eventRule v e)
-unfolding eventCode eventRefusal eventLines eventRule
+pub event-turns : (v : Record) (e : Event) → Turns v (eventRefusal v e) (eventDone v e) (eventRule v e)
+unfolding eventRule
 event-turns v e = turns v (eventRefusal v e) (eventDone v e)
 
-pub serve-turns : (v : Record) (m : Message) → Turns v (serveCode (isSound v) (v .tray) (v .desk) m) (serveDone v m) (serveRule v m)
-unfolding serveCode serveRefusal serveLines requestFits fitsServe inTray ofTray serveRule
+pub serve-turns : (v : Record) (m : Message) → Turns v (serveRefusal v m) (serveDone v m) (serveRule v m)
+unfolding serveRule
 serve-turns v m = turns v (serveRefusal v m) (serveDone v m)
 
-pub bring-turns : (v : Record) (m : Message) → Turns v (bringCode (isSound v) (v .tray) (v .desk) (v .seat) m) (bringDone v m) (bringRule v m)
-unfolding bringCode bringRefusal bringLines answerFits fitsBring inTray ofTray bringRule
+pub bring-turns : (v : Record) (m : Message) → Turns v (bringRefusal v m) (bringDone v m) (bringRule v m)
+unfolding bringRule
 bring-turns v m = turns v (bringRefusal v m) (bringDone v m)

@@ -1,17 +1,15 @@
 -- A desk's steps by what they make of a seat and of a cell. Record and table are changed through these, where they lie.
 -- Assumes nothing.
 use mathlib.Core.Bool.{Bool, true, false, not, _&&_, _||_, cond}
-use mathlib.Core.List.{[], _∷_}
 use mathlib.Core.Path.{_≡_}
 use Prim.Native.Nat.{ℕ}
 use native.Mathlib.Decide.{ℕ-discrete}
 use native.Mathlib.Omega.{arith}
 use borrow.Author.Tests.{eq-eqb, ne-eqb}
-use lib.Dec.{ltb, eqb}
+use lib.Dec.{eqb}
 use Rattle.clock.specs.declared.Clock.{Clock}
-use Rattle.clock.specs.Clock.{merged, isBefore, isWithin, raised}
+use Rattle.clock.specs.Clock.{merged, isBefore, raised}
 use Rattle.theory_lists.specs.Test.{whichever}
-use Rattle.theory_refusals.specs.Refusals.{firstOf}
 use Rattle.desk.specs.declared.Answer.{Answer}
 use Rattle.desk.specs.declared.Cell.{Cell}
 use Rattle.desk.specs.declared.Counts.{Counts}
@@ -20,9 +18,8 @@ use Rattle.desk.specs.declared.Message.{Message}
 use Rattle.desk.specs.declared.Reply.{Reply}
 use Rattle.desk.specs.declared.Seat.{Seat}
 use Rattle.desk.specs.declared.Slot.{Slot}
-use Rattle.desk.specs.declared.Tray.{Tray}
-use Rattle.desk.specs.Desk.{Word, noWord, isBlank, noCell, noSlot, noMessage, oneIf, keeps, heldCell, waits, answerKind, answersAsked, isOwn}
-use Rattle.desk.specs.Rules.{withClock, withSlot, shownCode, refusedReply, readAsked, writeAsked, seatLines, answerTo, markedServed}
+use Rattle.desk.specs.Desk.{Word, noWord, isBlank, noCell, noSlot, noMessage, oneIf, heldCell, answerKind}
+use Rattle.desk.specs.Rules.{withClock, withSlot, shownCode, refusedReply, readAsked, writeAsked, answerTo, markedServed}
 
 -- ---- an own event
 -- what it changes: 0 nothing, 1 the desk asks, 2 it stores, 3 it gives up
@@ -98,30 +95,7 @@ broughtReply kind word stamp count = replyOf (shownCode (eqb kind 3 && isBlank w
 abbrev pub losesIf : Bool → Clock → Cell → Bool
 losesIf kept learnt x = x .held && not kept && isBefore (x .stamp) learnt
 
--- ---- a record's steps: what refuses them, told whether the record is sound
-unfoldable pub eventCode : Bool → Tray → ℕ → Seat → Event → ℕ
-eventCode sound t desk s e = firstOf ((9, not sound) ∷ (8, not (isOwn e)) ∷ seatLines t desk s e)
-
-unfoldable pub inTray : Tray → Message → Bool
-inTray t m = eqb (m .desks) (t .counts .desks) && isWithin (t .counts .desks) (m .clock)
-
-unfoldable pub requestFits : Tray → ℕ → Message → Bool
-requestFits t desk m =
-    inTray t m
-    && (eqb (m .kind) 1 || eqb (m .kind) 2)
-    && (ltb (m .desk) (t .counts .desks) && not (eqb (m .desk) desk))
-    && keeps t desk (m .cell)
-
-unfoldable pub serveCode : Bool → Tray → ℕ → Message → ℕ
-serveCode sound t desk m = firstOf ((9, not sound) ∷ (15, not (requestFits t desk m)) ∷ [])
-
-unfoldable pub answerFits : Tray → ℕ → Slot → Message → Bool
-answerFits t desk s m = inTray t m && (eqb (m .desk) desk && eqb (m .cell) (s .cell) && answersAsked (s .kind) (m .kind))
-
-unfoldable pub bringCode : Bool → Tray → ℕ → Seat → Message → ℕ
-bringCode sound t desk s m = firstOf ((9, not sound) ∷ (13, not (waits (s .slot))) ∷ (15, not (answerFits t desk (s .slot) m)) ∷ [])
-
--- ---- and what they answer
+-- ---- a record's steps: what they answer
 abbrev pub refusedAnswer : ℕ → Answer
 refusedAnswer n = record { reply = refusedReply n; message = noMessage }
 

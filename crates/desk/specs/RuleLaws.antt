@@ -19,7 +19,7 @@ use Rattle.desk.specs.declared.Seat.{Seat}
 use Rattle.desk.specs.declared.Slot.{Slot}
 use Rattle.desk.specs.declared.Tray.{Tray}
 use Rattle.desk.specs.Desk.{keeps, waits, isAsked, isAnswered, answerKind, isOwn}
-use Rattle.desk.specs.Rules.{seatLines, eventLines, eventRefusal, ofTray, fitsServe, serveLines, serveRefusal, fitsBring, bringLines, bringRefusal}
+use Rattle.desk.specs.Rules.{seatLines, eventLines, eventRefusal, inTray, requestFits, serveLines, serveRefusal, answerFits, bringLines, bringRefusal}
 use Rattle.desk.specs.Sound.{isSound}
 use Rattle.desk.specs.SoundLaws.{sound-rule, keeps-in, no-way}
 
@@ -103,9 +103,9 @@ pub record Allowed (v : Record) (e : Event) : Type 0 where
   pub seat : SeatPassed (v .tray) (v .desk) (v .seat) e
 
 pub allowed : (v : Record) (e : Event) → eventRefusal v e ≡ 0 → Allowed v e
-unfolding eventRefusal eventLines seatLines numbersFrom testOf
+unfolding eventLines seatLines numbersFrom testOf
 allowed v e p =
-    let none = none-applies (eventLines v e) refl p in
+    let none = none-applies (eventLines (isSound v) (v .tray) (v .desk) (v .seat) e) refl p in
     let lines = seatLines (v .tray) (v .desk) (v .seat) e in
     record {
       sound = not-false (isSound v) (none 9);
@@ -125,10 +125,10 @@ pub record Served (v : Record) (m : Message) : Type 0 where
   pub kept : keeps (v .tray) (v .desk) (m .cell) ≡ true
 
 pub served : (v : Record) (m : Message) → serveRefusal v m ≡ 0 → Served v m
-unfolding serveRefusal serveLines fitsServe ofTray numbersFrom testOf
+unfolding serveLines requestFits inTray numbersFrom testOf
 served v m p =
-    let none = none-applies (serveLines v m) refl p in
-    let ok : fitsServe v m ≡ true = not-false (fitsServe v m) (none 15) in
+    let none = none-applies (serveLines (isSound v) (v .tray) (v .desk) m) refl p in
+    let ok = not-false (requestFits (v .tray) (v .desk) m) (none 15) in
     record {
       sound = not-false (isSound v) (none 9);
       clock = within-past (v .tray .counts .desks) (m .clock) (search (both-left, both-right));
@@ -148,10 +148,10 @@ pub record Brought (v : Record) (m : Message) : Type 0 where
   pub kind : m .kind ≡ answerKind (v .seat .slot .kind)
 
 pub brought : (v : Record) (m : Message) → bringRefusal v m ≡ 0 → Brought v m
-unfolding bringRefusal bringLines fitsBring ofTray numbersFrom testOf
+unfolding bringLines answerFits inTray numbersFrom testOf
 brought v m p =
-    let none = none-applies (bringLines v m) refl p in
-    let ok : fitsBring v m ≡ true = not-false (fitsBring v m) (none 15) in
+    let none = none-applies (bringLines (isSound v) (v .tray) (v .desk) (v .seat) m) refl p in
+    let ok = not-false (answerFits (v .tray) (v .desk) (v .seat .slot) m) (none 15) in
     record {
       sound = not-false (isSound v) (none 9);
       waiting = not-false (waits (v .seat .slot)) (none 13);

@@ -3,13 +3,14 @@
 use mathlib.Core.Bool.{Bool, true, false, not, _&&_, _||_, cond}
 use mathlib.Core.List.{List, [], _∷_}
 use Prim.Native.Nat.{ℕ}
-use lib.Dec.{ltb, eqb}
+use lib.Dec.{leb, ltb, eqb}
 use lib.ListN.{set}
 use Rattle.clock.specs.declared.Clock.{Clock}
 use Rattle.clock.specs.Clock.{number, zeroClock, merged, raised, isWithin}
 use Rattle.theory_refusals.specs.Refusals.{Line, firstOf, unless}
 use Rattle.desk.specs.declared.Answer.{Answer}
 use Rattle.desk.specs.declared.Cell.{Cell}
+use Rattle.desk.specs.declared.Counts.{Counts}
 use Rattle.desk.specs.declared.Event.{Event}
 use Rattle.desk.specs.declared.Message.{Message}
 use Rattle.desk.specs.declared.Record.{Record}
@@ -118,12 +119,16 @@ seatLines t desk s e =
     ∷ (16, eqb (e .kind) 2 && eqb (number (s .clock) desk) 4294967295)
     ∷ []
 
--- "8 an event of another kind"; 10 is never given, since the desk is the record's own
-unfoldable pub eventLines : Record → Event → List Line
-eventLines v e = (9, not (isSound v)) ∷ (8, not (isOwn e)) ∷ seatLines (v .tray) (v .desk) (v .seat) e
+-- the table's lines 8 and 10, which look at no seat
+abbrev pub placeLines : Counts → Event → List Line
+placeLines n e = (8, not (leb 1 (e .kind) && leb (e .kind) 5)) ∷ (10, not (ltb (e .desk) (n .desks))) ∷ []
 
-unfoldable pub eventRefusal : Record → Event → ℕ
-eventRefusal v e = firstOf (eventLines v e)
+-- a record's: "8 an event of another kind"; 10 is never given, since the desk is the record's own. The code looks at these parts of a record, told whether it is sound.
+unfoldable pub eventLines : Bool → Tray → ℕ → Seat → Event → List Line
+eventLines sound t desk s e = (9, not sound) ∷ (8, not (isOwn e)) ∷ seatLines t desk s e
+
+abbrev pub eventRefusal : Record → Event → ℕ
+eventRefusal v e = firstOf (eventLines (isSound v) (v .tray) (v .desk) (v .seat) e)
 
 unfoldable pub eventDone : Record → Event → Step
 eventDone v e =
@@ -136,16 +141,16 @@ eventRule v e = unless (eventRefusal v e) (refused v) (eventDone v e)
 
 -- ---- serve: the keeper receives a request
 -- "its desk count is the record's, clock numbers past it are 0"
-unfoldable pub ofTray : Record → Message → Bool
-ofTray v m = eqb (m .desks) (v .tray .counts .desks) && isWithin (v .tray .counts .desks) (m .clock)
+unfoldable pub inTray : Tray → Message → Bool
+inTray t m = eqb (m .desks) (t .counts .desks) && isWithin (t .counts .desks) (m .clock)
 
 -- "a request by another desk below the count for a cell kept here"
-unfoldable pub fitsServe : Record → Message → Bool
-fitsServe v m =
-    ofTray v m
+unfoldable pub requestFits : Tray → ℕ → Message → Bool
+requestFits t desk m =
+    inTray t m
     && (eqb (m .kind) 1 || eqb (m .kind) 2)
-    && (ltb (m .desk) (v .tray .counts .desks) && not (eqb (m .desk) (v .desk)))
-    && keeps (v .tray) (v .desk) (m .cell)
+    && (ltb (m .desk) (t .counts .desks) && not (eqb (m .desk) desk))
+    && keeps t desk (m .cell)
 
 -- the answer to a request
 abbrev pub answerTo : Message → Word → Clock → Message
@@ -170,21 +175,19 @@ writeServed v m =
 unfoldable pub serveDone : Record → Message → Step
 serveDone v m = cond (eqb (m .kind) 1) (readServed v m) (writeServed v m)
 
-unfoldable pub serveLines : Record → Message → List Line
-serveLines v m = (9, not (isSound v)) ∷ (15, not (fitsServe v m)) ∷ []
+unfoldable pub serveLines : Bool → Tray → ℕ → Message → List Line
+serveLines sound t desk m = (9, not sound) ∷ (15, not (requestFits t desk m)) ∷ []
 
-unfoldable pub serveRefusal : Record → Message → ℕ
-serveRefusal v m = firstOf (serveLines v m)
+abbrev pub serveRefusal : Record → Message → ℕ
+serveRefusal v m = firstOf (serveLines (isSound v) (v .tray) (v .desk) m)
 
 unfoldable pub serveRule : Record → Message → Step
 serveRule v m = unless (serveRefusal v m) (refused v) (serveDone v m)
 
 -- ---- bring: the desk receives its answer
 -- "an answer whose desk, cell and kind (read or write) are those asked"
-unfoldable pub fitsBring : Record → Message → Bool
-fitsBring v m =
-    ofTray v m
-    && (eqb (m .desk) (v .desk) && eqb (m .cell) (v .seat .slot .cell) && answersAsked (v .seat .slot .kind) (m .kind))
+unfoldable pub answerFits : Tray → ℕ → Slot → Message → Bool
+answerFits t desk s m = inTray t m && (eqb (m .desk) desk && eqb (m .cell) (s .cell) && answersAsked (s .kind) (m .kind))
 
 -- "If *served* is off, the named cell is now held with the answer's word and stamp; if on, it is not held"
 abbrev pub brought : Bool → Message → Cell
@@ -200,11 +203,11 @@ bringDone v m =
     replied (shownCode (eqb (m .kind) 3 && isBlank (m .word) (m .clock))) (m .word)
     (lossOf (v .tray) (v .desk) (m .clock) (set (v .row) (m .cell) noCell)) noMessage (brings v m)
 
-unfoldable pub bringLines : Record → Message → List Line
-bringLines v m = (9, not (isSound v)) ∷ (13, not (waits (v .seat .slot))) ∷ (15, not (fitsBring v m)) ∷ []
+unfoldable pub bringLines : Bool → Tray → ℕ → Seat → Message → List Line
+bringLines sound t desk s m = (9, not sound) ∷ (13, not (waits (s .slot))) ∷ (15, not (answerFits t desk (s .slot) m)) ∷ []
 
-unfoldable pub bringRefusal : Record → Message → ℕ
-bringRefusal v m = firstOf (bringLines v m)
+abbrev pub bringRefusal : Record → Message → ℕ
+bringRefusal v m = firstOf (bringLines (isSound v) (v .tray) (v .desk) (v .seat) m)
 
 unfoldable pub bringRule : Record → Message → Step
 bringRule v m = unless (bringRefusal v m) (refused v) (bringDone v m)

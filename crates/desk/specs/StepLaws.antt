@@ -24,6 +24,7 @@ use Rattle.desk.specs.Desk.{Word, isBlank, noCell, noMessage, pastCell, 
 use Rattle.desk.specs.Rules.{slotMessage, holds, withClock, withSeat, stores, readAsked, writeAsked, replied, refused, shownCode, asks}
 use Rattle.desk.specs.Rules.{readRule, nextClock, writeRule, dropRule, seatLines, eventLines, eventRefusal, eventDone, eventRule}
 use Rattle.desk.specs.Rules.{serveRefusal, serveRule, serveDone, bringRefusal, bringRule, bringDone}
+use Rattle.desk.specs.Sound.{isSound}
 
 -- ---- a refusal gives its number and changes nothing
 pub event-refused : (v : Record) (e : Event) → (eventRefusal v e ≡ 0 → ⊥) → eventRule v e ≡ refused v (eventRefusal v e)
@@ -103,10 +104,10 @@ unfolding dropRule
 drop-told v c = quiet-told 0 0 (oneIf (isCopy (v .tray) (v .desk) c (cellAt (v .row) c))) (holds v c noCell) (omega arith)
 
 pub event-told : (v : Record) (e : Event) → Told (eventRule v e)
-unfolding eventRule eventRefusal eventLines seatLines eventDone numbersFrom
+unfolding eventRule eventLines seatLines eventDone numbersFrom
 event-told v e =
     unless-either (eventRefusal v e) (refused v) (eventDone v e) Told
-    (λ some. quiet-told (eventRefusal v e) 0 0 v (λ one. ⊎-elim (λ none. some none) (λ large. omega arith) (first-from 3 (eventLines v e) refl)))
+    (λ some. quiet-told (eventRefusal v e) 0 0 v (λ one. ⊎-elim (λ none. some none) (λ large. omega arith) (first-from 3 (eventLines (isSound v) (v .tray) (v .desk) (v .seat) e) refl)))
     (λ none.
     whichever Told (eqb (e .kind) 1) (readRule v (e .cell)) (cond (eqb (e .kind) 2) (writeRule v (e .cell) (e .word)) (dropRule v (e .cell)))
     (read-told v (e .cell))

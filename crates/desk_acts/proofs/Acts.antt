@@ -1,10 +1,9 @@
 -- The functions by value that walks call, as the walks cite them: what each is passed, what it asks, and what it gives.
 -- Assumes nothing.
 use mathlib.Core.Path.{_≡_, refl}
-use mathlib.Core.Bool.{not, _&&_}
 use mathlib.Core.List.{List, [], _∷_}
 use Prim.Native.Nat.{_+_, _*_, _<_, _≤_}
-use lib.Dec.{eqb, leb, ltb}
+use lib.Dec.{eqb}
 use mir.Syntax.{w8, w32, w64}
 use Rattle.clock.proofs.Clock as K
 use Rattle.clock.proofs.Clock.Laws as K′
@@ -20,7 +19,7 @@ use Rattle.desk.proofs.Reply.Laws as Y′
 use Rattle.desk.specs.Desk.{heldCell, keptBy}
 use Rattle.desk.specs.Parts.{changeOf, askingSeat, raisedSeat, ownReply, tookSeat, answeredSeat, homeSeat, broughtCell, broughtReply, replyOf, losesIf}
 use Rattle.desk.specs.Parts.{refusedAnswer, ownAnswer, servedAnswer, broughtAnswer}
-use Rattle.desk.specs.Rules.{refusedReply, seatLines}
+use Rattle.desk.specs.Rules.{refusedReply, placeLines, seatLines}
 use Rattle.desk_parts.proofs.Parts.{cell, spot, counts, tray, seat}
 use Rattle.theory_refusals.specs.Refusals.{firstOf}
 use Rattle.walks.proofs.Lent.{PlainFn, Pre, always, where-holds}
@@ -125,7 +124,7 @@ abbrev pub dropped : PlainFn
 dropped = record { Ps = number w32 ∷ []; R = reply; pre = always; res = λ a. replyOf 0 0 (a .0) }
 
 abbrev pub unplaced : PlainFn
-unplaced = record { Ps = counts ∷ event ∷ []; R = number w32; pre = always; res = λ a. firstOf ((8, not (leb 1 (a .1 .0 .kind) && leb (a .1 .0 .kind) 5)) ∷ (10, not (ltb (a .1 .0 .desk) (a .0 .desks))) ∷ []) }
+unplaced = record { Ps = counts ∷ event ∷ []; R = number w32; pre = always; res = λ a. firstOf (placeLines (a .0) (a .1 .0)) }
 
 abbrev pub keeps : PlainFn
 keeps = record { Ps = spot ∷ number w64 ∷ []; R = boolean; pre = always; res = λ a. keptBy (a .0) (a .1 .0) }

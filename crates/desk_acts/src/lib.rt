@@ -1,14 +1,12 @@
 // What a desk's steps make of a seat and of a cell, by value. Record and table are thin functions over these.
-ghost use mathlib.Core.Bool.{not, _&&_};
-ghost use mathlib.Core.List.{[], _∷_};
 ghost use mathlib.Core.Path.{_≡_};
 ghost use Prim.Native.Nat.{_+_, _*_, _<_};
-ghost use lib.Dec.{eqb, leb, ltb};
+ghost use lib.Dec.{eqb};
 ghost use Rattle.clock.specs.Clock.{number, raised};
-ghost use Rattle.desk.specs.Desk.{heldCell, isBlank, oneIf};
+ghost use Rattle.desk.specs.Desk.{heldCell, isBlank, oneIf, answerKind};
 ghost use Rattle.desk.specs.Parts.{changeOf, askedFor, askingSeat, raisedSeat, readReply, writeReply, ownReply, tookSeat, answeredSeat, homeSeat, broughtCell, broughtReply, replyOf, losesIf};
 ghost use Rattle.desk.specs.Parts.{refusedAnswer, askedMessage, ownAnswer, servedAnswer, broughtAnswer};
-ghost use Rattle.desk.specs.Rules.{shownCode, refusedReply};
+ghost use Rattle.desk.specs.Rules.{shownCode, refusedReply, placeLines};
 ghost use Rattle.theory_refusals.specs.Refusals.{firstOf};
 use clock::Clock;
 use desk::Answer;
@@ -205,6 +203,14 @@ pub fn took(s: Seat, sent: Clock) -> Seat
     after
 }
 
+// The kind of the answer to a request.
+pub fn answer_kind(asked: u8) -> u8
+    requires { ⌜ asked < 3 ⌝ }
+    ensures { λ r. ⌜ r ≡ answerKind asked ⌝ }
+{
+    asked + 2
+}
+
 // The asker's seat, with what the keeper's cell answers.
 pub fn answering(s: Seat, x: Cell) -> Seat
     requires { ⌜ s .slot .kind < 3 ⌝ }
@@ -213,7 +219,7 @@ pub fn answering(s: Seat, x: Cell) -> Seat
     let clock = x.stamp;
     let asked = s.slot;
     let slot = Slot {
-        kind: asked.kind + 2,
+        kind: answer_kind(asked.kind),
         cell: asked.cell,
         word: x.word,
         clock,
@@ -373,7 +379,7 @@ pub fn dropped(count: u32) -> Reply
 
 // The table's 8 and 10; 0 where neither applies.
 pub fn unplaced(n: Counts, e: Event) -> u32
-    ensures { λ r. ⌜ r ≡ firstOf ((8, not (leb 1 (e .kind) && leb (e .kind) 5)) ∷ (10, not (ltb (e .desk) (n .desks))) ∷ []) ⌝ }
+    ensures { λ r. ⌜ r ≡ firstOf (placeLines n e) ⌝ }
 {
     let kind = e.kind;
     let desks = n.desks as u32;
@@ -471,7 +477,7 @@ pub fn served_answer(count: u32, m: Message, x: Cell) -> Answer
 {
     let clock = x.stamp;
     let message = Message {
-        kind: m.kind + 2,
+        kind: answer_kind(m.kind),
         desks: m.desks,
         desk: m.desk,
         cell: m.cell,

@@ -10,8 +10,9 @@ use Rattle.desk.specs.declared.Record.{Record}
 use Rattle.desk.specs.declared.Step.{Step}
 use Rattle.desk.specs.Desk.{cellAt, placeAt}
 use Rattle.desk.specs.InPlace.{lostIn, lossIn, storeIn, takeIn}
-use Rattle.desk.specs.Parts.{eventCode, serveCode, bringCode}
-use Rattle.desk.specs.Rules.{answerOf, eventRefusal, eventDone, eventRule, serveRefusal, serveDone, serveRule, bringRefusal, bringDone, bringRule}
+use Rattle.desk.specs.Rules.{answerOf, eventLines, eventRefusal, eventDone, eventRule}
+use Rattle.desk.specs.Rules.{serveLines, serveRefusal, serveDone, serveRule, bringLines, bringRefusal, bringDone, bringRule}
+use Rattle.theory_refusals.specs.Refusals.{firstOf}
 use Rattle.desk.specs.Sound.{isSound}
 use Rattle.desk_acts.proofs.Acts.{clock, event as event·type, message, answer}
 use Rattle.desk_parts.proofs.Parts.{desk-record, cell, spot, tray, seat, row-in, places-in}
@@ -88,7 +89,7 @@ event-code = record {
   Ps = boolean ∷ tray ∷ number w8 ∷ seat ∷ event·type ∷ [];
   R = number w32;
   pre = where-holds (λ a. a .0 ≡ true → (a .1 .1 .0 < 8) × (a .1 .0 .counts .cells ≤ 32));
-  res = λ a. eventCode (a .0) (a .1 .0) (a .1 .1 .0) (a .1 .1 .1 .0) (a .1 .1 .1 .1 .0);
+  res = λ a. firstOf (eventLines (a .0) (a .1 .0) (a .1 .1 .0) (a .1 .1 .1 .0) (a .1 .1 .1 .1 .0));
 }
 
 abbrev pub serve-code : PlainFn
@@ -96,7 +97,7 @@ serve-code = record {
   Ps = boolean ∷ tray ∷ number w8 ∷ message ∷ [];
   R = number w32;
   pre = where-holds (λ a. a .0 ≡ true → a .1 .0 .counts .cells ≤ 32);
-  res = λ a. serveCode (a .0) (a .1 .0) (a .1 .1 .0) (a .1 .1 .1 .0);
+  res = λ a. firstOf (serveLines (a .0) (a .1 .0) (a .1 .1 .0) (a .1 .1 .1 .0));
 }
 
 abbrev pub bring-code : PlainFn
@@ -104,5 +105,5 @@ bring-code = record {
   Ps = boolean ∷ tray ∷ number w8 ∷ seat ∷ message ∷ [];
   R = number w32;
   pre = where-holds (λ a. a .0 ≡ true → a .1 .1 .1 .0 .slot .kind < 3);
-  res = λ a. bringCode (a .0) (a .1 .0) (a .1 .1 .0) (a .1 .1 .1 .0) (a .1 .1 .1 .1 .0);
+  res = λ a. firstOf (bringLines (a .0) (a .1 .0) (a .1 .1 .0) (a .1 .1 .1 .0) (a .1 .1 .1 .1 .0));
 }

@@ -3,7 +3,8 @@
 ghost use mathlib.Core.Bool.{true};
 ghost use mathlib.Core.Path.{_≡_};
 ghost use Prim.Native.Nat.{_<_, _≤_};
-ghost use Rattle.desk.specs.Parts.{eventCode, serveCode, bringCode, inTray, requestFits, answerFits};
+ghost use Rattle.desk.specs.Rules.{eventLines, serveLines, bringLines, inTray, requestFits, answerFits};
+ghost use Rattle.theory_refusals.specs.Refusals.{firstOf};
 use desk::Event;
 use desk::Message;
 use desk::Seat;
@@ -11,12 +12,13 @@ use desk::Slot;
 use desk::Tray;
 use desk::sound::keeps;
 use desk::sound::waits;
+use desk_acts::answer_kind;
 use desk_refusals::is_own;
 use desk_refusals::seat_refusal;
 
 pub fn event_code(sound: bool, t: Tray, desk: u8, s: Seat, e: Event) -> u32
     requires { ⌜ (sound ≡ true → (desk < 8) × (t .counts .cells ≤ 32)) ⌝ }
-    ensures { λ r. ⌜ r ≡ eventCode sound t desk s e ⌝ }
+    ensures { λ r. ⌜ r ≡ firstOf (eventLines sound t desk s e) ⌝ }
 {
     if !sound {
         return 9;
@@ -29,7 +31,7 @@ pub fn event_code(sound: bool, t: Tray, desk: u8, s: Seat, e: Event) -> u32
 
 pub fn serve_code(sound: bool, t: Tray, desk: u8, m: Message) -> u32
     requires { ⌜ (sound ≡ true → t .counts .cells ≤ 32) ⌝ }
-    ensures { λ r. ⌜ r ≡ serveCode sound t desk m ⌝ }
+    ensures { λ r. ⌜ r ≡ firstOf (serveLines sound t desk m) ⌝ }
 {
     if !sound {
         return 9;
@@ -42,7 +44,7 @@ pub fn serve_code(sound: bool, t: Tray, desk: u8, m: Message) -> u32
 
 pub fn bring_code(sound: bool, t: Tray, desk: u8, s: Seat, m: Message) -> u32
     requires { ⌜ (sound ≡ true → s .slot .kind < 3) ⌝ }
-    ensures { λ r. ⌜ r ≡ bringCode sound t desk s m ⌝ }
+    ensures { λ r. ⌜ r ≡ firstOf (bringLines sound t desk s m) ⌝ }
 {
     if !sound {
         return 9;
@@ -84,6 +86,6 @@ fn answer_fits(t: Tray, desk: u8, s: Slot, m: Message) -> bool
     requires { ⌜ s .kind < 3 ⌝ }
     ensures { λ r. ⌜ r ≡ answerFits t desk s m ⌝ }
 {
-    let kind = s.kind + 2;
+    let kind = answer_kind(s.kind);
     in_tray(t, m) & ((m.desk == desk) & (m.cell == s.cell) & (m.kind == kind))
 }

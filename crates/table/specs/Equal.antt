@@ -1,6 +1,6 @@
 -- The table's take equals the keeper's serve, its bring the desk's bring, and a desk's own events the desk's, with the slot as the message.
 -- Assumes nothing.
-use mathlib.Core.Path.{_≡_, refl, sym, ap, _∙_}
+use mathlib.Core.Path.{_≡_, refl, sym, ap, subst, _∙_}
 use mathlib.Core.Bool.{Bool, true, false, not, cond}
 use mathlib.Core.Logic.{⊎-elim}
 use Prim.Native.Nat.{ℕ, _≤_, _<_}
@@ -20,7 +20,7 @@ use Rattle.desk.specs.Desk.{waits, isAsked, isAnswered, answerKind, isOwn}
 use Rattle.desk.specs.Kept.{event-kept, asked-rule, full-rule, seat-row, slot-seat}
 use Rattle.desk.specs.RuleLaws.{allowed, answered-kind}
 use Rattle.desk.specs.Rules.{withSlot, slotMessage, readAsked, writeAsked, refused, eventRefusal, eventDone, takes, readServed, writeServed, serveDone}
-use Rattle.desk.specs.Rules.{ofTray, fitsServe, serveLines, serveRefusal, fitsBring, brings, bringDone, bringLines, bringRefusal}
+use Rattle.desk.specs.Rules.{inTray, requestFits, serveLines, serveRefusal, answerFits, brings, bringDone, bringLines, bringRefusal}
 use Rattle.desk.specs.Rules as rules
 use Rattle.desk.specs.SameDesk.{serve-answers, event-same, bring-same}
 use Rattle.desk.specs.Sound.{isSound}
@@ -171,10 +171,10 @@ module _ (t : Table) (e : Event) (z : Sized t) (none : refusal t e ≡ 0) where
     asks = take-asks t e a k
 
     pub take-fits : serveRefusal (askedRecord t (keeperFor t (e .desk))) (messageOf t (e .desk)) ≡ 0
-    unfolding serveRefusal serveLines firstOf fitsServe ofTray messageOf recordOf isAsked
+    unfolding serveLines firstOf requestFits inTray messageOf recordOf isAsked
     take-fits = rw (record-sound t (a .sound) (keeperFor t (e .desk)) (asks .keeper-is), fits)
       where
-        fits : fitsServe (askedRecord t (keeperFor t (e .desk))) (messageOf t (e .desk)) ≡ true
+        fits : requestFits (t .tray) (keeperFor t (e .desk)) (messageOf t (e .desk)) ≡ true
         fits =
             both
             (both (both (both (eq-eqb (t .tray .counts .desks) (t .tray .counts .desks) refl) slot-within) (a .seat .asked k))
@@ -206,7 +206,7 @@ module _ (t : Table) (e : Event) (z : Sized t) (none : refusal t e ≡ 0) where
   -- 4 Bring is the desk's bring
   module _ (k : e .kind ≡ 4) where
     pub bring-fits : bringRefusal (askedRecord t (e .desk)) (messageOf t (e .desk)) ≡ 0
-    unfolding bringRefusal bringLines firstOf fitsBring ofTray messageOf recordOf
+    unfolding bringLines firstOf answerFits inTray messageOf recordOf
     bring-fits = rw (record-sound t (a .sound) (e .desk) (a .desk-is), waiting, fits)
       where
         s : Slot
@@ -215,7 +215,7 @@ module _ (t : Table) (e : Event) (z : Sized t) (none : refusal t e ≡ 0) where
         waiting : waits (askedSlot s) ≡ true
         waiting = asked-waits s (a .sound .row-is (e .desk) (here t e a) .seat-is .slot-is .kind-most) ∙ answer-waits t e a k
 
-        fits : fitsBring (askedRecord t (e .desk)) (messageOf t (e .desk)) ≡ true
+        fits : answerFits (t .tray) (e .desk) (askedSlot s) (messageOf t (e .desk)) ≡ true
         fits =
             let names = asked-names s (a .seat .answered k) in
             both (both (eq-eqb (t .tray .counts .desks) (t .tray .counts .desks) refl) slot-within)
@@ -246,13 +246,13 @@ module _ (t : Table) (e : Event) (z : Sized t) (none : refusal t e ≡ 0) where
     own-record = asking-same (recordOf t (e .desk)) (own-sound t e a o .asked)
 
     pub own-fits : eventRefusal (askedRecord t (e .desk)) e ≡ 0
-    own-fits = rw own-record (own-passes t e a o)
+    own-fits = subst (λ (v : Record). eventRefusal v e ≡ 0) (sym own-record) (own-passes t e a o)
 
     events : deskEvents t e ≡ eventDone (recordOf t (e .desk)) e
     unfolding rules.eventRule
     events =
         let v = recordOf t (e .desk) in
-        rw own-record (unless-done (eventRefusal v e) (refused v) (eventDone v e) (own-passes t e a o))
+        ap (λ (w : Record). rules.eventRule w e) own-record ∙ unless-done (eventRefusal v e) (refused v) (eventDone v e) (own-passes t e a o)
 
     own-after : recordOf (eventRule t e .after) (e .desk) ≡ eventDone (recordOf t (e .desk)) e .after
     unfolding ownRule outcome

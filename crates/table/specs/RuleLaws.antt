@@ -2,7 +2,7 @@
 -- Assumes nothing.
 use mathlib.Core.Path.{_≡_, refl, ap}
 use mathlib.Core.Bool.{Bool, true, false, not, _&&_}
-use mathlib.Core.List.{_∷_}
+use mathlib.Core.List.{_++_}
 use mathlib.Core.Logic.{_⊎_, inl, inr, ⊎-elim}
 use Prim.Native.Nat.{ℕ, _≤_, _<_}
 use native.Mathlib.Decide.{ℕ-discrete}
@@ -15,10 +15,10 @@ use Rattle.desk.specs.declared.Event.{Event}
 use Rattle.desk.specs.declared.Slot.{Slot}
 use Rattle.desk.specs.Desk.{keeps, waits, isOwn}
 use Rattle.desk.specs.RuleLaws.{one-of, own-is, is-own, asked-kind, answered-kind, SeatPassed, seat-passed}
-use Rattle.desk.specs.Rules.{seatLines, eventLines, eventRefusal}
+use Rattle.desk.specs.Rules.{placeLines, seatLines, eventLines, eventRefusal}
 use Rattle.desk.specs.SoundLaws.{SoundRule, rule-sound, keeper-keeps, keeper-desk, no-way}
 use Rattle.theory_lists.specs.Test.{both-left, both-right}
-use Rattle.theory_refusals.specs.Refusals.{Line, firstOf, unless, numbersFrom, testOf, none-applies, none-after, unless-refused, unless-done, unless-either}
+use Rattle.theory_refusals.specs.Refusals.{Line, firstOf, unless, numbersFrom, testOf, none-applies, none-after, first-none, unless-refused, unless-done, unless-either}
 use Rattle.table.specs.declared.Outcome.{Outcome}
 use Rattle.table.specs.declared.Table.{Table}
 use Rattle.table.specs.Rows.{Sized}
@@ -44,10 +44,9 @@ pub pass : (t : Table) (e : Event) → Sized t → refusal t e ≡ 0 → Passed 
 unfolding refusal lines seatLines numbersFrom testOf
 pass t e z p =
     let none = none-applies (lines t e) refl p in
-    let desk : Line = (10, not (ltb (e .desk) (t .tray .counts .desks))) in
-    let kind : Line = (8, not (leb 1 (e .kind) && leb (e .kind) 5)) in
+    let first = placeLines (t .tray .counts) e in
     let rest = seatLines (t .tray) (e .desk) (seatOf t (e .desk)) e in
-    let later = none-after desk rest refl (none-after kind (desk ∷ rest) refl (none-after (9, not (tableSound t)) (kind ∷ desk ∷ rest) refl p)) in
+    let later = first-none first rest refl (none-after (9, not (tableSound t)) (first ++ rest) refl p) .1 in
     let in-kinds = not-false (leb 1 (e .kind) && leb (e .kind) 5) (none 8) in
     record {
       sound = table-rule t z (not-false (tableSound t) (none 9));
@@ -178,7 +177,7 @@ module _ (t : Table) (e : Event) (a : Passed t e) where
         record { tray-is = a .sound .tray-is; desk-is = a .desk-is; row-is = a .sound .row-is (e .desk) here; asked = omega arith }
 
     pub own-passes : eventRefusal (recordOf t (e .desk)) e ≡ 0
-    unfolding eventRefusal eventLines firstOf recordOf
+    unfolding eventLines firstOf recordOf
     own-passes = rw (rule-sound (recordOf t (e .desk)) own-sound, o) (a .none)
 
   -- ---- so every place that is named is there

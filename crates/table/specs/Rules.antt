@@ -1,16 +1,16 @@
 -- The owner rules on the whole table. A desk's own events are the desk's rule on its record; take is the keeper's serve and bring the desk's
 -- bring, with the slot as the message.
 -- Assumes nothing.
-use mathlib.Core.Bool.{Bool, not, _&&_, cond}
-use mathlib.Core.List.{List, _∷_}
+use mathlib.Core.Bool.{Bool, not, cond}
+use mathlib.Core.List.{List, _∷_, _++_}
 use Prim.Native.Nat.{ℕ}
-use lib.Dec.{ltb, leb, eqb}
+use lib.Dec.{eqb}
 use Rattle.desk.specs.declared.Event.{Event}
 use Rattle.desk.specs.declared.Message.{Message}
 use Rattle.desk.specs.declared.Record.{Record}
 use Rattle.desk.specs.declared.Slot.{Slot}
 use Rattle.desk.specs.declared.Step.{Step}
-use Rattle.desk.specs.Rules.{withSlot, withSeat, refusedReply, slotMessage, seatLines, eventDone, serveDone, bringDone}
+use Rattle.desk.specs.Rules.{withSlot, withSeat, refusedReply, slotMessage, placeLines, seatLines, eventDone, serveDone, bringDone}
 use Rattle.theory_refusals.specs.Refusals.{Line, firstOf, unless}
 use Rattle.table.specs.declared.Outcome.{Outcome}
 use Rattle.table.specs.declared.Table.{Table}
@@ -21,9 +21,8 @@ use Rattle.table.specs.Table.{seatOf, slotOf, keeperFor, recordOf, putBa
 unfoldable pub lines : Table → Event → List Line
 lines t e =
     (9, not (tableSound t))
-    ∷ (8, not (leb 1 (e .kind) && leb (e .kind) 5))
-    ∷ (10, not (ltb (e .desk) (t .tray .counts .desks)))
-    ∷ seatLines (t .tray) (e .desk) (seatOf t (e .desk)) e
+    ∷ placeLines (t .tray .counts) e
+    ++ seatLines (t .tray) (e .desk) (seatOf t (e .desk)) e
 
 unfoldable pub refusal : Table → Event → ℕ
 refusal t e = firstOf (lines t e)

@@ -1,14 +1,14 @@
 -- The refusals of a sound table as the code looks for them: 8 and 10, then the lines that look at a seat; and what an event comes to then.
 -- Assumes nothing.
 use mathlib.Core.Path.{_≡_, refl, sym, ap, _∙_}
-use mathlib.Core.Bool.{Bool, true, false, not, _&&_}
-use mathlib.Core.List.{List, [], _∷_, _++_}
+use mathlib.Core.Bool.{Bool, true, false, not}
+use mathlib.Core.List.{List, _++_}
 use Prim.Native.Nat.{ℕ, _<_}
 use native.Mathlib.Omega.{arith}
 use borrow.Author.Tests.{ltb-true, eqb-true, eq-eqb, not-false}
-use lib.Dec.{T, eqb, leb, ltb}
+use lib.Dec.{T, eqb, ltb}
 use Rattle.desk.specs.declared.Event.{Event}
-use Rattle.desk.specs.Rules.{refusedReply, seatLines}
+use Rattle.desk.specs.Rules.{refusedReply, placeLines, seatLines}
 use Rattle.theory_refusals.specs.Refusals.{Line, firstOf, numbersFrom, testOf, none-applies, first-some, first-more}
 use Rattle.table.specs.declared.Outcome.{Outcome}
 use Rattle.table.specs.declared.Table.{Table}
@@ -18,12 +18,9 @@ use Rattle.table.specs.Sound.{tableSound}
 use Rattle.table.specs.SoundLaws.{sound-tray}
 use Rattle.table.specs.Table.{seatOf}
 
-abbrev first-two : Table → Event → List Line
-first-two t e = (8, not (leb 1 (e .kind) && leb (e .kind) 5)) ∷ (10, not (ltb (e .desk) (t .tray .counts .desks))) ∷ []
-
 -- what `unplaced` finds
 abbrev pub unplacedOf : Table → Event → ℕ
-unplacedOf t e = firstOf (first-two t e)
+unplacedOf t e = firstOf (placeLines (t .tray .counts) e)
 
 -- a code that the code has tested for 0
 some-of : (n : ℕ) → T (not (eqb n 0)) → n ≡ 0 → ⊥
@@ -40,22 +37,22 @@ module _ (t : Table) (e : Event) (ok : tableSound t ≡ true) where
   abbrev rest : List Line
   rest = seatLines (t .tray) (e .desk) (seatOf t (e .desk)) e
 
-  refusal-is : refusal t e ≡ firstOf (first-two t e ++ rest)
+  refusal-is : refusal t e ≡ firstOf (placeLines (t .tray .counts) e ++ rest)
   unfolding refusal lines firstOf
   refusal-is = rw ok
 
   pub unplaced-some : T (not (eqb (unplacedOf t e) 0)) → unplacedOf t e ≡ refusal t e
-  unplaced-some h = sym (refusal-is ∙ first-some (first-two t e) rest (some-of (unplacedOf t e) h))
+  unplaced-some h = sym (refusal-is ∙ first-some (placeLines (t .tray .counts) e) rest (some-of (unplacedOf t e) h))
 
   module _ (h : T (not (not (eqb (unplacedOf t e) 0)))) where
     pub unplaced-none : firstOf rest ≡ refusal t e
     unfolding numbersFrom
-    unplaced-none = sym (refusal-is ∙ first-more (first-two t e) rest refl (none-of (unplacedOf t e) h))
+    unplaced-none = sym (refusal-is ∙ first-more (placeLines (t .tray .counts) e) rest refl (none-of (unplacedOf t e) h))
 
     pub placed : e .desk < 8
     unfolding numbersFrom testOf
     placed =
-        let there = none-applies (first-two t e) refl (none-of (unplacedOf t e) h) 10 in
+        let there = none-applies (placeLines (t .tray .counts) e) refl (none-of (unplacedOf t e) h) 10 in
         let below = ltb-true (e .desk) (t .tray .counts .desks) (not-false (ltb (e .desk) (t .tray .counts .desks)) there) in
         omega (arith, below, sound-tray t ok .desks-most)
 

@@ -4,14 +4,14 @@ use borrow.Author.Needs.{needs}
 use Rattle.desk_acts.proofs.served_answer.Statement.{statement}
 use Rattle.desk_acts.proofs.served_answer.Tie as tie
 
-add-t6 : tie.Need-add-t6
-add-t6 c = search needs
+answer-kind-requires : tie.Need-answer-kind-requires
+answer-kind-requires c κs = search needs
 
 dropped-requires : tie.Need-dropped-requires
 dropped-requires c κs = search needs
 
 returns : tie.Need-returns
-returns c = rw (c .dropped .ensures)
+returns c = rw (c .before .answer-kind .ensures, c .dropped .ensures)
 
 pub served-answer-spec : {M : Type 1} → statement M
-served-answer-spec = tie.close (tie.spec add-t6 dropped-requires returns)
+served-answer-spec = tie.close (tie.spec answer-kind-requires dropped-requires returns)

@@ -2,8 +2,8 @@
 -- Assumes nothing.
 use mathlib.Core.Path.{refl, sym, ap, subst, _∙_}
 use native.Mathlib.Omega.{arith}
-use Rattle.desk.specs.InPlace.{bring-code as code-is, bring-turns as turns}
-use Rattle.desk.specs.Parts.{bringCode}
+use Rattle.desk.specs.InPlace.{bring-turns as turns}
+use Rattle.desk.specs.Rules.{bringRefusal}
 use Rattle.desk.specs.Sound.{isSound}
 use Rattle.desk.specs.SoundLaws.{sound-rule}
 use Rattle.desk_acts.proofs.Acts as acts
@@ -47,7 +47,7 @@ bring-spec 𝓤 H 𝓜 𝓖 𝓡 =
     let refused-answer-met = knows acts.refused-answer refused-answer.name refused-answer.routine code.calls-desk-acts·refused-answer
     (refused-answer-thm.met 𝓤 H 𝓜 𝓖 𝓡) κ q b o γ in
     let receive-met = does steps.receive receive.name receive.routine code.calls-desk-step·receive (receive-thm.met 𝓤 H 𝓜 𝓖 𝓡) κ q b o γ in
-    let x = a .0 in let is-x = is-a .0 in let n = bringCode (isSound t) (t .tray) (t .desk) (t .seat) x in let turn = turns t x in
+    let x = a .0 in let is-x = is-a .0 in let n = bringRefusal t x in let turn = turns t x in
     (tt, tt) ⨟ _ ⨟ sound-met ⨟ tt ⨟ (tt, tt) ⨟ refl ⨟ refl ⨟ λ is-ok. (tt, tt)
     ⨟ _ ⨟ own-tray-met ⨟ tt ⨟ (tt, tt) ⨟ refl ⨟ refl ⨟ λ is-t. (tt, tt)
     ⨟ _ ⨟ own-desk-met ⨟ tt ⨟ (tt, tt) ⨟ refl ⨟ refl ⨟ λ is-d. (tt, tt)
@@ -59,5 +59,5 @@ bring-spec 𝓤 H 𝓜 𝓖 𝓡 =
     (_ ⨟ refused-answer-met ⨟ (n, tt) ⨟ ((is-n, tt), tt) ⨟ refl ⨟ refl ⨟ λ is-r.
     _ ⨟ refl ⨟ (ap (val acts.answer) (same .0), subst (IsOf acts.answer) (same .0) is-r, same .1, tt)))
     ⨟ (λ no. let same = turn .does no in
-    ((tt, tt) ⨟ _ ⨟ receive-met ⨟ (x, tt) ⨟ ((is-x, tt), sym (code-is t x) ∙ turn .none no) ⨟ refl ⨟ refl ⨟ λ is-r.
+    ((tt, tt) ⨟ _ ⨟ receive-met ⨟ (x, tt) ⨟ ((is-x, tt), turn .none no) ⨟ refl ⨟ refl ⨟ λ is-r.
     _ ⨟ refl ⨟ (ap (val acts.answer) (same .0), subst (IsOf acts.answer) (same .0) is-r, same .1, tt)))))

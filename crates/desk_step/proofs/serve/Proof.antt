@@ -1,8 +1,8 @@
 -- `desk_step::serve` meets its contract. It refuses with the code that was found, or does the step.
 -- Assumes nothing.
 use mathlib.Core.Path.{refl, sym, ap, subst, _∙_}
-use Rattle.desk.specs.InPlace.{serve-code as code-is, serve-turns as turns}
-use Rattle.desk.specs.Parts.{serveCode}
+use Rattle.desk.specs.InPlace.{serve-turns as turns}
+use Rattle.desk.specs.Rules.{serveRefusal}
 use Rattle.desk.specs.Sound.{isSound}
 use Rattle.desk.specs.SoundLaws.{sound-rule}
 use Rattle.desk_acts.proofs.Acts as acts
@@ -43,7 +43,7 @@ serve-spec 𝓤 H 𝓜 𝓖 𝓡 =
     let refused-answer-met = knows acts.refused-answer refused-answer.name refused-answer.routine code.calls-desk-acts·refused-answer
     (refused-answer-thm.met 𝓤 H 𝓜 𝓖 𝓡) κ q b o γ in
     let take-met = does steps.take take.name take.routine code.calls-desk-step·take (take-thm.met 𝓤 H 𝓜 𝓖 𝓡) κ q b o γ in
-    let x = a .0 in let is-x = is-a .0 in let n = serveCode (isSound t) (t .tray) (t .desk) x in let turn = turns t x in
+    let x = a .0 in let is-x = is-a .0 in let n = serveRefusal t x in let turn = turns t x in
     (tt, tt) ⨟ _ ⨟ sound-met ⨟ tt ⨟ (tt, tt) ⨟ refl ⨟ refl ⨟ λ is-ok. (tt, tt)
     ⨟ _ ⨟ own-tray-met ⨟ tt ⨟ (tt, tt) ⨟ refl ⨟ refl ⨟ λ is-t. (tt, tt)
     ⨟ _ ⨟ own-desk-met ⨟ tt ⨟ (tt, tt) ⨟ refl ⨟ refl ⨟ λ is-d.
@@ -54,5 +54,5 @@ serve-spec 𝓤 H 𝓜 𝓖 𝓡 =
     (_ ⨟ refused-answer-met ⨟ (n, tt) ⨟ ((is-n, tt), tt) ⨟ refl ⨟ refl ⨟ λ is-r.
     _ ⨟ refl ⨟ (ap (val acts.answer) (same .0), subst (IsOf acts.answer) (same .0) is-r, same .1, tt)))
     ⨟ (λ no. let same = turn .does no in
-    ((tt, tt) ⨟ _ ⨟ take-met ⨟ (x, tt) ⨟ ((is-x, tt), sym (code-is t x) ∙ turn .none no) ⨟ refl ⨟ refl ⨟ λ is-r.
+    ((tt, tt) ⨟ _ ⨟ take-met ⨟ (x, tt) ⨟ ((is-x, tt), turn .none no) ⨟ refl ⨟ refl ⨟ λ is-r.
     _ ⨟ refl ⨟ (ap (val acts.answer) (same .0), subst (IsOf acts.answer) (same .0) is-r, same .1, tt)))))

@@ -1,19 +1,19 @@
 -- `desk_step::codes::answer_fits` meets its contract.
 -- Assumes nothing.
 use borrow.Author.Needs.{needs}
-use Rattle.desk.specs.Parts.{answerFits}
+use Rattle.desk.specs.Rules.{answerFits}
 use Rattle.desk_step.proofs.codes.answer_fits.Statement.{statement}
 use Rattle.desk_step.proofs.codes.answer_fits.Tie as tie
 
-add-kind : tie.Need-add-kind
-add-kind c = search needs
+answer-kind-requires : tie.Need-answer-kind-requires
+answer-kind-requires c κs = search needs
 
 in-tray-requires : tie.Need-in-tray-requires
 in-tray-requires c κs = search needs
 
 returns : tie.Need-returns
 unfolding answerFits
-returns c = rw (c .before .before .before .before .in-tray .ensures)
+returns c = rw (c .before .before .before .before .in-tray .ensures, c .before .before .before .before .before .answer-kind .ensures)
 
 pub answer-fits-spec : {M : Type 1} → statement M
-answer-fits-spec = tie.close (tie.spec add-kind in-tray-requires returns)
+answer-fits-spec = tie.close (tie.spec answer-kind-requires in-tray-requires returns)

@@ -2,27 +2,27 @@
 -- Assumes nothing.
 use borrow.Author.Needs.{needs}
 use borrow.Author.Tests.{not-false}
-use Rattle.desk.specs.Parts.{bringCode}
+use Rattle.desk.specs.Rules.{bringLines}
 use Rattle.theory_refusals.specs.Refusals.{firstOf}
 use Rattle.desk_step.proofs.codes.bring_code.Statement.{statement}
 use Rattle.desk_step.proofs.codes.bring_code.Tie as tie
 
 returns : tie.Need-returns
-unfolding bringCode firstOf
+unfolding bringLines firstOf
 returns c = rw (c .if1 .taken)
 
 waits-requires : tie.Need-waits-requires
 waits-requires c κs = search needs
 
 returns-2 : tie.Need-returns-2
-unfolding bringCode firstOf
+unfolding bringLines firstOf
 returns-2 c = rw (c .before .before .if1 .left, ← c .before .waits .ensures, c .if2 .taken)
 
 answer-fits-requires : tie.Need-answer-fits-requires
 answer-fits-requires c κs = c .before .before .before .pre (not-false _ (c .before .before .if1 .left))
 
 returns-3 : tie.Need-returns-3
-unfolding bringCode firstOf
+unfolding bringLines firstOf
 returns-3 c =
     rw (
       c .before .before .before .before .if1 .left,
@@ -33,7 +33,7 @@ returns-3 c =
     )
 
 returns-4 : tie.Need-returns-4
-unfolding bringCode firstOf
+unfolding bringLines firstOf
 returns-4 c =
     rw (
       c .before .before .before .before .if1 .left,

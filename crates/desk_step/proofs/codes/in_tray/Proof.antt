@@ -1,7 +1,7 @@
 -- `desk_step::codes::in_tray` meets its contract.
 -- Assumes nothing.
 use borrow.Author.Needs.{needs}
-use Rattle.desk.specs.Parts.{inTray}
+use Rattle.desk.specs.Rules.{inTray}
 use Rattle.desk_step.proofs.codes.in_tray.Statement.{statement}
 use Rattle.desk_step.proofs.codes.in_tray.Tie as tie
 

@@ -4,7 +4,7 @@ use borrow.Author.Needs.{needs}
 use mathlib.Core.Bool.{and-false}
 use borrow.Author.Tests.{le-ltb}
 use Rattle.desk.specs.Desk.{keeps}
-use Rattle.desk.specs.Parts.{requestFits}
+use Rattle.desk.specs.Rules.{requestFits}
 use Rattle.desk_step.proofs.codes.request_fits.Statement.{statement}
 use Rattle.desk_step.proofs.codes.request_fits.Tie as tie
 
