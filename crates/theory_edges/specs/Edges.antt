@@ -28,7 +28,7 @@ use Rattle.spelling.specs.Bytes.{bytes, followed, spell, numbers}
 use Rattle.frame.specs.Frame.{carried, lengthOf, rowOf, messageOf, frameOf, faultLines, readLines, readRule}
 
 -- a clock by its first numbers; the others are 0
-abbrev clock : List ℕ → Clock
+abbrev pub clock : List ℕ → Clock
 clock ns = record { n = take 8 (ns ++ replicate 8 0) }
 
 -- the small table with its desk's own clock number n
@@ -39,10 +39,10 @@ abbrev reply : ℕ → Word → Reply
 reply code value = record { code = code; value = value; count = 0 }
 
 -- what a desk asks: to read, or to write a word
-abbrev readAsked : ℕ → ℕ → ℕ → Message
+abbrev pub readAsked : ℕ → ℕ → ℕ → Message
 readAsked desks desk cell = record { kind = 1; desks = desks; desk = desk; cell = cell; word = noWord; clock = clock [] }
 
-abbrev writeAsked : ℕ → ℕ → ℕ → Word → List ℕ → Message
+abbrev pub writeAsked : ℕ → ℕ → ℕ → Word → List ℕ → Message
 writeAsked desks desk cell word sent = record { kind = 2; desks = desks; desk = desk; cell = cell; word = word; clock = clock sent }
 
 -- these bytes are the frame of this message: they are written for it, and read as it to the last
