@@ -1,2 +1,4 @@
+pub mod Broken
 pub mod Edges
 pub mod Runs
+pub mod Wrong
