@@ -1,4 +1,5 @@
 pub mod Broken
 pub mod Edges
+pub mod Laws
 pub mod Runs
 pub mod Wrong
