@@ -1,5 +1,5 @@
--- "A table is sound if", condition by condition: one sound table, and tables and records that differ from it in one field and are not sound. So no
--- condition can be dropped unnoticed. (Of "counts are in range" one half follows from the rest: with no desk no keeper is a desk.)
+-- "A table is sound if", condition by condition: one sound table, and tables and records that differ from it in one field and are not sound; and fresh
+-- tables with a count out of range. Each breaks one condition alone, so none can be dropped unnoticed. (But with no desk no keeper is a desk either.)
 -- Assumes nothing.
 use mathlib.Core.Path.{_≡_, refl}
 use mathlib.Core.Bool.{Bool, true, false}
@@ -31,7 +31,7 @@ abbrev kept : ℕ → Place
 kept keeper = record { keeper = keeper }
 
 -- six desks; three cells, kept by desks 0, 1 and 0
-abbrev tray : Tray
+abbrev pub tray : Tray
 tray = record { counts = record { desks = 6; cells = 3 }; places = kept 0 ∷ kept 1 ∷ kept 0 ∷ replicate 29 noPlace }
 
 abbrev waiting : Slot → Seat
@@ -56,15 +56,14 @@ right =
           ∷ replicate 3 noSeat;
     }
 
--- ---- it with one field changed
-abbrev withTray : Tray → Table
-withTray t = record { cells = right .cells; tray = t; seats = right .seats }
+-- a fresh table, whose cells desk 0 keeps
+abbrev fresh : (desks cells : ℕ) → Table
+fresh d c = freshTable (record { counts = record { desks = d; cells = c }; places = replicate 32 noPlace })
 
-abbrev counting : (desks cells : ℕ) → Table
-counting d c = withTray (record { counts = record { desks = d; cells = c }; places = tray .places })
-
+-- ---- the sound one with one field changed
 abbrev keeping : (cell keeper : ℕ) → Table
-keeping c k = withTray (record { counts = tray .counts; places = set (tray .places) c (kept k) })
+keeping c k =
+    record { cells = right .cells; tray = record { counts = tray .counts; places = set (tray .places) c (kept k) }; seats = right .seats }
 
 abbrev inCell : (desk cell : ℕ) → (Cell → Cell) → Table
 inCell p c f = withCell right (p * 32 + c) (f (cellAt (right .cells) (p * 32 + c)))
@@ -104,12 +103,13 @@ sentUp k s = record { kind = s .kind; cell = s .cell; word = s .word; clock = ra
 unfoldable pub broken : List (ℕ × Table)
 broken =
     -- "counts are in range": 1 to 8 desks, 1 to 32 cells
-    (0, counting 0 3)
-    ∷ (0, counting 9 3)
-    ∷ (0, counting 6 0)
-    ∷ (0, counting 6 33)
+    (0, fresh 0 1)
+    ∷ (0, fresh 9 1)
+    ∷ (0, fresh 1 0)
+    ∷ (0, fresh 1 33)
     -- "keepers are desks"
     ∷ (5, keeping 1 6)
+    ∷ (5, keeping 1 8)
     -- a keeper past the cell count is not 0
     ∷ (0, keeping 3 1)
     ∷ (0, keeping 31 1)
@@ -169,10 +169,7 @@ brokenRecords =
     ∷ recordOf (inSlot 2 (ofKind 4)) 2
     ∷ map (λ (x : ℕ × Table). recordOf (x .1) (x .0)) broken
 
--- what is sound: the table, the records of its desks whose slot is not answered, and the smallest and the largest fresh table
-abbrev fresh : (desks cells : ℕ) → Table
-fresh d c = freshTable (record { counts = record { desks = d; cells = c }; places = replicate 32 noPlace })
-
+-- what is sound: the table, the smallest and the largest fresh one, and the records of desks whose slot is not answered
 unfoldable pub soundTables : List Table
 soundTables = right ∷ fresh 1 1 ∷ fresh 8 32 ∷ []
 

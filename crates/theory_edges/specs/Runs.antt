@@ -1,5 +1,5 @@
--- Runs, event by event with their replies, as 01's whole case is. Each rules out wrong rules that the laws let pass: they stand above it.
--- The program and the independent twin give the same replies.
+-- Runs, event by event with their replies, as 01's whole case is. Above each stands which wrong rules it rules out. The program and the independent twin
+-- give the same replies.
 -- Assumes nothing.
 use mathlib.Core.Path.{_≡_, refl}
 use mathlib.Core.List.{List, [], _∷_, map}
@@ -33,25 +33,25 @@ bring p = event 4 p 0 0
 abbrev drop : (desk cell : ℕ) → Event
 drop p c = event 5 p c 0
 
--- a run: its plan, and each event with its reply
+-- a run: what it starts from, and each event with its reply
 pub record Run : Type 0 where
   pub start : Plan
-  pub told : List (Event × Reply)
+  pub turns : List (Event × Reply)
 
-unfoldable pub account : Run → Account
+unfoldable pub ran : Run → Account
 unfolding played
-account r = played eventRule (r .start) (map (λ (x : Event × Reply). x .0) (r .told))
+ran r = played eventRule (r .start) (map (λ (x : Event × Reply). x .0) (r .turns))
 
 -- the rules reply so
 abbrev Replied : Run → Type 0
-Replied r = account r .replies ≡ map (λ (x : Event × Reply). x .1) (r .told)
+Replied r = ran r .replies ≡ map (λ (x : Event × Reply). x .1) (r .turns)
 
 -- after the run, desk p's cells and its clock
 abbrev cellsAfter : Run → (desk : ℕ) → List Cell
-cellsAfter r p = first (r .start .cells) (recordOf (account r .table) p .row)
+cellsAfter r p = first (r .start .cells) (recordOf (ran r .table) p .row)
 
 abbrev clockAfter : Run → (desk : ℕ) → Clock
-clockAfter r p = seatOf (account r .table) p .clock
+clockAfter r p = seatOf (ran r .table) p .clock
 
 -- A copy that is only beside the stamp of a bring, or beside the sent clock of a take, stays; the one strictly before it goes.
 -- Rules out: dropping what is beside; dropping every copy at a bring or a take.
@@ -59,7 +59,7 @@ unfoldable pub beside : Run
 beside =
     record {
       start = plan 3 3 (0 ∷ 1 ∷ 2 ∷ replicate 29 0);
-      told =
+      turns =
           (write 0 0 1, reply 0 1 0)
           ∷ (write 1 1 2, reply 0 2 0)
           ∷ (read 2 0, reply 1 0 0)
@@ -80,17 +80,17 @@ beside =
 
 pub beside-run : Replied beside
     × (cellsAfter beside 2 ≡ noCell ∷ heldCell 2 (clock (0 ∷ 1 ∷ [])) ∷ heldCell 3 (clock (2 ∷ 1 ∷ [])) ∷ [])
-unfolding account beside
+unfolding ran beside
 beside-run = (refl, refl)
 
--- Two blanks have equal stamps, so the first copy stays when the second is brought. Then desk 1 writes a cell of which it has a copy: the copy of
--- the other cell is dropped and counted, its own old one is not counted. Its answer, not served, is held and shown with code 0.
+-- Two blanks have equal stamps, so the first copy stays when the second is brought. Then desk 1 writes a cell of which it has a copy: at the bring the
+-- copy of the other cell is dropped and counted, the old one of this cell is not counted. The answer, without *served*, is held and read with code 0.
 -- Rules out: dropping what is equal; counting the named cell's old copy; not holding the answer to an own write.
 unfoldable pub equal : Run
 equal =
     record {
       start = plan 2 2 (0 ∷ 0 ∷ replicate 30 0);
-      told =
+      turns =
           (read 1 0, reply 1 0 0)
           ∷ (take 1, reply 0 0 0)
           ∷ (bring 1, reply 2 0 0)
@@ -114,7 +114,7 @@ equal =
     }
 
 pub equal-run : Replied equal
-unfolding account equal
+unfolding ran equal
 equal-run = refl
 
 -- Desk 0 keeps cells 0 and 2 and has a copy of cell 1. It writes cell 0 itself, which drops nothing. Then it takes desk 2's write of cell 2: its copy,
@@ -124,7 +124,7 @@ unfoldable pub sent : Run
 sent =
     record {
       start = plan 3 3 (0 ∷ 1 ∷ 0 ∷ replicate 29 0);
-      told =
+      turns =
           (write 1 1 5, reply 0 5 0)
           ∷ (read 0 1, reply 1 0 0)
           ∷ (take 0, reply 0 0 0)
@@ -139,7 +139,7 @@ sent =
 
 pub sent-run : Replied sent
     × (cellsAfter sent 0 ≡ heldCell 7 (clock (1 ∷ 1 ∷ [])) ∷ heldCell 5 (clock (0 ∷ 1 ∷ [])) ∷ heldCell 8 (clock (1 ∷ 1 ∷ 1 ∷ [])) ∷ [])
-unfolding account sent
+unfolding ran sent
 sent-run = (refl, refl)
 
 -- Desk 1 reads cell 1, of stamp (1,0,0), when its keeper's clock is (3,0,0). Its copy of cell 0, of stamp (2,0,0), is before that clock and not before
@@ -149,7 +149,7 @@ unfoldable pub stamped : Run
 stamped =
     record {
       start = plan 3 3 (0 ∷ 0 ∷ 1 ∷ replicate 29 0);
-      told =
+      turns =
           (write 0 1 6, reply 0 6 0)
           ∷ (write 0 0 5, reply 0 5 0)
           ∷ (write 1 2 4, reply 0 4 0)
@@ -169,18 +169,18 @@ stamped =
 pub stamped-run : Replied stamped
     × (cellsAfter stamped 1 ≡ heldCell 5 (clock (2 ∷ [])) ∷ heldCell 6 (clock (1 ∷ [])) ∷ heldCell 4 (clock (0 ∷ 1 ∷ [])) ∷ [])
     × (clockAfter stamped 1 ≡ clock (2 ∷ 1 ∷ []))
-unfolding account stamped
+unfolding ran stamped
 stamped-run = (refl, refl, refl)
 
--- Both desks serve a write while they wait: desk 1 for its second write of cell 0, whose old copy is beside the clock sent to it. The old copy goes at the bring
--- and is not counted, and the answer is not held. A read served, and a mark of an answer brought before, do not keep the next answer from being held.
--- Rules out: keeping the answer, or the old copy, where *served* is on; counting the old copy; marking *served* at a read; leaving the mark at the bring;
--- raising the writer's own clock when it asks (the stamp of cell 1 would be (1,2)).
+-- Both desks serve a write while they wait. Desk 1 waits for its second write of cell 0; its old copy is beside the clock sent to it, so it goes at the
+-- bring, not counted, and the answer is not held. The next answers are held: *served* was cleared, and a read served does not set it.
+-- Rules out: keeping the answer or the old copy where *served* is on; counting the old copy; *served* at a read, or left at the bring;
+-- raising the writer's own clock when it asks: the stamp of cell 1 would be (1,2).
 unfoldable pub served : Run
 served =
     record {
       start = plan 2 2 (0 ∷ 1 ∷ replicate 30 0);
-      told =
+      turns =
           (write 1 0 31, reply 1 0 0)
           ∷ (write 0 1 33, reply 1 0 0)
           ∷ (take 1, reply 0 0 0)
@@ -203,17 +203,17 @@ served =
 
 pub served-run : Replied served
     × (cellsAfter served 1 ≡ heldCell 42 (clock (0 ∷ 2 ∷ [])) ∷ heldCell 33 (clock (1 ∷ 1 ∷ [])) ∷ [])
-unfolding account served
+unfolding ran served
 served-run = (refl, refl)
 
--- What is refused changes nothing, and the run goes on; each number once where a later line applies too. A written 0 is read with code 2, and its
--- writer is told code 0.
--- Rules out: a refusal that fills or clears a slot; lines in another order; code 2 for a write.
+-- What is refused changes nothing, and the run goes on; where two lines apply, the earlier one decides. A written 0 is read with code 2, and its writer
+-- is told code 0.
+-- Rules out: a refusal that fills or clears a slot; 8, 10, 11, 12 and 14 in another order; code 2 for a write.
 unfoldable pub refused : Run
 refused =
     record {
       start = plan 2 2 (0 ∷ 1 ∷ replicate 30 0);
-      told =
+      turns =
           (bring 1, reply 13 0 0)
           ∷ (take 1, reply 13 0 0)
           ∷ (read 1 0, reply 1 0 0)
@@ -222,11 +222,11 @@ refused =
           ∷ (bring 1, reply 13 0 0)
           ∷ (take 1, reply 0 0 0)
           ∷ (take 1, reply 13 0 0)
-          ∷ (drop 1 0, reply 12 0 0)
+          ∷ (drop 1 1, reply 12 0 0)
           ∷ (bring 1, reply 2 0 0)
           ∷ (drop 1 1, reply 14 0 0)
           ∷ (write 0 0 0, reply 0 0 0)
-          ∷ (write 2 0 9, reply 10 0 0)
+          ∷ (write 2 2 9, reply 10 0 0)
           ∷ (event 6 2 0 0, reply 8 0 0)
           ∷ (event 0 0 0 0, reply 8 0 0)
           ∷ (read 0 0, reply 2 0 0)
@@ -242,5 +242,5 @@ refused =
     }
 
 pub refused-run : Replied refused
-unfolding account refused
+unfolding ran refused
 refused-run = refl

@@ -1,12 +1,16 @@
 -- Wrong frames and messages: for each refusal of reading and of writing the smallest that has it, and for each two that follow each other in the order
--- one that has both, which shows the first. Beside them what is just right.
+-- one that has both, which shows the first. Then messages that do not fit a record, condition by condition. Beside each what is just right.
 -- Assumes nothing.
 use mathlib.Core.Path.{_≡_, refl}
+use mathlib.Core.Bool.{true, false}
 use mathlib.Core.List.{List, [], _∷_, _++_, map}
 use Prim.Native.Nat.{ℕ}
 use lib.ListN.{replicate}
 use Rattle.desk.specs.declared.Message.{Message}
-use Rattle.desk.specs.Desk.{Word, noMessage}
+use Rattle.desk.specs.declared.Slot.{Slot}
+use Rattle.desk.specs.Desk.{Word, noMessage, keeps}
+use Rattle.desk.specs.Rules.{writeAsked as slotOfWrite, inTray, requestFits, answerFits}
+use Rattle.clock.specs.Clock.{isWithin}
 use Rattle.frame.specs.declared.Reading.{Reading}
 use Rattle.frame.specs.declared.Written.{Written}
 use Rattle.frame.specs.Frame.{carried, lengthOf, rowOf, messageOf, frameOf, faultLines, readLines, readRule}
@@ -14,8 +18,9 @@ use Rattle.frame.specs.Frame.{carriedOrZero, wellFormed, writeLines, writeRule,
 use Rattle.spelling.specs.Bytes.{bytes, followed, spell, numbers}
 use Rattle.theory_lists.specs.Each.{mapAt}
 use Rattle.theory_lists.specs.Sum.{sum}
-use Rattle.theory_lists.specs.Test.{every}
+use Rattle.theory_lists.specs.Test.{every, some}
 use Rattle.theory_refusals.specs.Refusals.{firstOf, unless}
+use Rattle.theory_edges.specs.Broken.{tray}
 use Rattle.theory_edges.specs.Edges.{clock}
 
 -- ---- reading
@@ -118,6 +123,46 @@ output room = replicate room 9
 abbrev written : (code used : ℕ) → Written
 written code used = record { code = code; used = used }
 
+-- ---- fitting: in the tray of `Broken`, with six desks, desk 0 keeps cells 0 and 2 and desk 1 cell 1; desk 2 has asked to write cell 0
+unfoldable pub fitRequests : List Message
+fitRequests = message 1 6 1 0 0 [] ∷ message 2 6 5 2 7 (0 ∷ 0 ∷ 0 ∷ 0 ∷ 0 ∷ 1 ∷ []) ∷ message 1 6 1 0 7 (1 ∷ []) ∷ []
+
+-- each is a request to desk 0 but for one field
+unfoldable pub unfitRequests : List Message
+unfitRequests =
+    -- "its desk count is the record's"
+    message 1 5 1 0 0 []
+    -- "clock numbers past it are 0"
+    ∷ message 2 6 1 0 7 (0 ∷ 0 ∷ 0 ∷ 0 ∷ 0 ∷ 0 ∷ 1 ∷ [])
+    -- "a request"
+    ∷ message 0 6 1 0 0 []
+    ∷ message 3 6 1 0 0 []
+    -- "by another desk below the count"
+    ∷ message 1 6 0 0 0 []
+    ∷ message 1 6 6 0 0 []
+    -- "for a cell kept here"
+    ∷ message 1 6 2 1 0 []
+    ∷ message 1 6 1 3 0 []
+    ∷ []
+
+abbrev asked : Slot
+asked = slotOfWrite 0 7 (clock (0 ∷ 0 ∷ 1 ∷ []))
+
+unfoldable pub fitAnswers : List Message
+fitAnswers = message 4 6 2 0 7 (0 ∷ 0 ∷ 1 ∷ []) ∷ message 4 6 2 0 0 [] ∷ message 4 6 2 0 8 (9 ∷ 0 ∷ 0 ∷ 0 ∷ 0 ∷ 9 ∷ []) ∷ []
+
+-- each is an answer to desk 2 but for one field
+unfoldable pub unfitAnswers : List Message
+unfitAnswers =
+    message 4 5 2 0 7 []
+    ∷ message 4 6 2 0 7 (0 ∷ 0 ∷ 0 ∷ 0 ∷ 0 ∷ 0 ∷ 1 ∷ [])
+    -- "an answer whose desk, cell and kind (read or write) are those asked"
+    ∷ message 4 6 3 0 7 []
+    ∷ message 4 6 2 2 7 []
+    ∷ message 3 6 2 0 7 []
+    ∷ message 2 6 2 0 7 []
+    ∷ []
+
 -- at each of a list, the two give the same
 abbrev Alike : {A B : Type 0} → List A → (A → B) → (A → B) → Type 0
 Alike l f g = map f l ≡ map g l
@@ -133,3 +178,12 @@ pub wrong-refused :
 unfolding wrongFrames rightFrames wrongMessages rightMessages every sum mapAt firstOf unless bytes followed spell numbers carried lengthOf rowOf messageOf
     frameOf faultLines readLines readRule carriedOrZero wellFormed writeLines writeRule outputRule
 wrong-refused = (refl, refl, refl, refl, refl, refl)
+
+-- those fit, and none of these does
+pub unfit-refused :
+    (every (map (requestFits tray 0) fitRequests) ≡ true)
+    × (some (map (requestFits tray 0) unfitRequests) ≡ false)
+    × (every (map (answerFits tray 2 asked) fitAnswers) ≡ true)
+    × (some (map (answerFits tray 2 asked) unfitAnswers) ≡ false)
+unfolding fitRequests unfitRequests fitAnswers unfitAnswers every some mapAt isWithin keeps inTray requestFits answerFits
+unfit-refused = (refl, refl, refl, refl)
