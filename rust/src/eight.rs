@@ -4,11 +4,10 @@
 //! against the curator's wish that no coordinate stands beside an older datum.
 
 use std::collections::VecDeque;
+use std::mem::take;
 use std::ops::AddAssign;
-use std::sync::atomic::{AtomicBool, AtomicU64, AtomicUsize, Ordering};
-use std::sync::mpsc::{channel, Receiver, Sender};
+use std::sync::mpsc::{channel, Receiver, RecvError, Sender};
 use std::thread;
-use std::time::Duration;
 
 use crate::data::{code, kind, slot};
 use crate::gen::Rng;
@@ -83,11 +82,8 @@ fn number(refusal: Refusal) -> u32 {
 }
 
 /// Something that took effect at one desk.
-#[derive(Clone, Debug)]
+#[derive(Clone, Debug, PartialEq)]
 pub struct Step {
-    /// Its place among all steps: after the desk's earlier ones, and after the sending of what it
-    /// received.
-    pub at: u64,
     /// The event, as the table would have it.
     pub event: Event,
     /// What the desk was told.
@@ -97,10 +93,11 @@ pub struct Step {
 }
 
 /// What eight desks did.
+#[derive(Debug, PartialEq)]
 pub struct Run {
     /// What set-up was told.
     pub plan: Plan,
-    /// All steps in the order in which they took effect.
+    /// All steps, each after its desk's earlier ones and after the sending of what it received.
     pub steps: Vec<Step>,
     /// Frames sent.
     pub frames: usize,
@@ -121,7 +118,9 @@ fn coordinate_of(pair: u32) -> u32 {
 /// All that goes from desk to desk.
 type Frame = Vec<u8>;
 
-/// Lets eight desks do so many events each.
+/// Lets eight desks do so many events each, in rounds: all eight work at the same time, each in its
+/// thread, and what they send arrives with a later round. So the seed alone decides what meets
+/// what, and the threads' speed nothing.
 ///
 /// # Panics
 /// If a frame cannot be written or read back, or a message is refused.
@@ -133,107 +132,135 @@ pub fn run<P: Part>(seed: u64, turns: usize) -> Run {
         cells: CELL_COUNT,
         keepers: std::array::from_fn(|_| rng.below(DESKS as u32)),
     };
-    let next_step = AtomicU64::new(0);
-    let busy = AtomicUsize::new(DESKS);
-    let alarm = AtomicBool::new(false);
-    let (senders, inboxes): (Vec<Sender<Frame>>, Vec<Receiver<Frame>>) =
-        (0..DESKS).map(|_| channel()).unzip();
+    let mut run = Run {
+        plan,
+        steps: Vec::new(),
+        frames: 0,
+    };
     // All are waited for before any is asked how it went.
-    let results: Vec<thread::Result<(Vec<Step>, usize)>> = thread::scope(|scope| {
-        let threads: Vec<_> = inboxes
-            .into_iter()
-            .zip(0..)
-            .map(|(inbox, desk)| {
+    let results: Vec<thread::Result<()>> = thread::scope(|scope| {
+        let (threads, desks): (Vec<_>, Vec<_>) = (0..DESKS as u32)
+            .map(|desk| {
                 let worker = Worker {
                     record: P::start(&plan, desk).expect("a good set-up"),
                     rng: Rng::new(rng.bits()),
-                    inbox,
-                    senders: senders.clone(),
-                    next_step: &next_step,
-                    busy: &busy,
-                    alarm: Alarm(&alarm),
+                    turns,
+                    arrived: Vec::new(),
                     wants: VecDeque::new(),
                     words: 0,
-                    log: Vec::new(),
-                    frames: 0,
+                    round: Round::default(),
                 };
-                scope.spawn(move || worker.work::<P>(turns))
+                let (to_desk, inbox) = channel();
+                let (outbox, from_desk) = channel();
+                let thread = scope.spawn(move || worker.work::<P>(&inbox, &outbox));
+                (thread, (to_desk, from_desk))
             })
-            .collect();
+            .unzip();
+        run.lead(&desks, &mut rng);
+        drop(desks);
         threads.into_iter().map(|thread| thread.join()).collect()
     });
-    let (logs, frames): (Vec<_>, Vec<_>) = results
-        .into_iter()
-        .map(|result| result.expect("no desk gives up"))
-        .unzip();
-    let mut steps = logs.concat();
-    steps.sort_by_key(|step| step.at);
-    Run {
-        plan,
-        steps,
-        frames: frames.iter().sum(),
+    for result in results {
+        result.expect("no desk gives up");
+    }
+    run
+}
+
+/// A desk's thread as it is seen from outside: where frames go in, and where they come out.
+type Desk = (Sender<Vec<Frame>>, Receiver<Round>);
+
+impl Run {
+    /// Round after round, until every desk is done or one has given up.
+    fn lead(&mut self, desks: &[Desk], rng: &mut Rng) {
+        // Each with the rounds that it still takes, and the desk that it is for.
+        let mut under_way: Vec<(u32, u8, Frame)> = Vec::new();
+        loop {
+            let mut arriving: [Vec<Frame>; DESKS] = Default::default();
+            for (rounds, to, frame) in take(&mut under_way) {
+                match rounds {
+                    0 => arriving[usize::from(to)].push(frame),
+                    _ => under_way.push((rounds - 1, to, frame)),
+                }
+            }
+            // All have begun before any is waited for.
+            for ((to_desk, _), frames) in desks.iter().zip(arriving) {
+                let _ = to_desk.send(frames);
+            }
+            let rounds = desks.iter().map(|(_, from_desk)| from_desk.recv());
+            let Ok(rounds) = rounds.collect::<Result<Vec<Round>, RecvError>>() else {
+                return;
+            };
+            // Where nobody waits any more, nothing is under way.
+            let all_done = rounds.iter().all(|round| round.is_done);
+            for round in rounds {
+                self.steps.extend(round.steps);
+                self.frames += round.sent.len();
+                for (to, frame) in round.sent {
+                    // Most arrive with the next round, and some late, when much has happened.
+                    let rounds = if rng.one_in(4) { rng.below(20) } else { 0 };
+                    under_way.push((rounds, to, frame));
+                }
+            }
+            if all_done {
+                return;
+            }
+        }
     }
 }
 
-/// Raised when a desk panics, so that the others do not wait for it.
-struct Alarm<'a>(&'a AtomicBool);
-
-impl Drop for Alarm<'_> {
-    fn drop(&mut self) {
-        self.0.fetch_or(thread::panicking(), Ordering::SeqCst);
-    }
+/// What a desk did in a round.
+#[derive(Default)]
+struct Round {
+    steps: Vec<Step>,
+    /// Frames, and the desk that each is for.
+    sent: Vec<(u8, Frame)>,
+    /// Whether it has nothing more to do, and does not wait.
+    is_done: bool,
 }
 
 /// One desk at work.
-struct Worker<'a> {
+struct Worker {
     record: Record,
     rng: Rng,
-    inbox: Receiver<Frame>,
-    senders: Vec<Sender<Frame>>,
-    next_step: &'a AtomicU64,
-    /// Desks that still have something to do.
-    busy: &'a AtomicUsize,
-    alarm: Alarm<'a>,
+    /// Events that its program may still do.
+    turns: usize,
+    /// Frames that it has not looked at yet.
+    arrived: Vec<Frame>,
     /// What its program wants to do next.
     wants: VecDeque<Event>,
     /// Words written so far, so that no two writes of the run have the same.
     words: u32,
-    log: Vec<Step>,
-    frames: usize,
+    /// This round so far.
+    round: Round,
 }
 
-impl Worker<'_> {
-    fn work<P: Part>(mut self, mut turns: usize) -> (Vec<Step>, usize) {
-        let mut arrived: Vec<Frame> = Vec::new();
-        let mut is_done = false;
-        loop {
-            arrived.extend(self.inbox.try_iter());
-            let waits = self.record.row.slot.kind != slot::EMPTY;
-            if !arrived.is_empty() && self.rng.one_in(2) {
-                // Any of them, so that frames overtake each other.
-                let chosen = self.rng.index(arrived.len());
-                let bytes = arrived.swap_remove(chosen);
-                self.receive::<P>(&bytes);
-            } else if turns > 0 && (!waits || self.rng.one_in(16)) {
-                // Trying again while it waits is refused, and changes nothing.
-                turns -= 1;
-                self.act::<P>();
-            } else if turns == 0 && !waits && !is_done {
-                is_done = true;
-                self.busy.fetch_sub(1, Ordering::SeqCst);
-            } else if is_done && self.busy.load(Ordering::SeqCst) == 0 {
-                // Nobody waits any more, so nothing is under way.
-                return (self.log, self.frames);
-            } else if self.alarm.0.load(Ordering::SeqCst) {
-                return (self.log, self.frames);
-            } else if arrived.is_empty() {
-                arrived.extend(self.inbox.recv_timeout(Duration::from_micros(50)));
+impl Worker {
+    fn work<P: Part>(mut self, inbox: &Receiver<Vec<Frame>>, outbox: &Sender<Round>) {
+        for frames in inbox {
+            self.arrived.extend(frames);
+            for _ in 0..self.rng.below(8) {
+                self.go_on::<P>();
             }
-            match self.rng.below(32) {
-                0 => thread::sleep(Duration::from_micros(self.rng.below(40).into())),
-                1..=8 => thread::yield_now(),
-                _ => {}
-            }
+            self.round.is_done = self.turns == 0 && !self.waits();
+            // Nobody listens any more where another desk has given up.
+            let _ = outbox.send(take(&mut self.round));
+        }
+    }
+
+    fn waits(&self) -> bool {
+        self.record.row.slot.kind != slot::EMPTY
+    }
+
+    fn go_on<P: Part>(&mut self) {
+        if !self.arrived.is_empty() && self.rng.one_in(2) {
+            // Any of them, so that frames overtake each other.
+            let chosen = self.rng.index(self.arrived.len());
+            let bytes = self.arrived.swap_remove(chosen);
+            self.receive::<P>(&bytes);
+        } else if self.turns > 0 && (!self.waits() || self.rng.one_in(16)) {
+            // Trying again while it waits is refused, and changes nothing.
+            self.turns -= 1;
+            self.act::<P>();
         }
     }
 
@@ -242,9 +269,8 @@ impl Worker<'_> {
             self.want_more();
         }
         let event = self.wants[0];
-        let at = self.now();
         let (reply, request) = P::event(&mut self.record, &event);
-        self.note(at, event, reply);
+        self.note(event, reply);
         if reply.code != Refusal::Waits as u32 {
             self.wants.pop_front();
         }
@@ -258,7 +284,6 @@ impl Worker<'_> {
 
     fn receive<P: Part>(&mut self, bytes: &[u8]) {
         let (message, _) = P::read(bytes).expect("frames arrive whole");
-        let at = self.now();
         let asker = message.desk;
         let event = |kind| Event {
             kind,
@@ -268,13 +293,13 @@ impl Worker<'_> {
         if message.kind <= slot::WRITE_ASKED {
             let (reply, answer) = P::serve(&mut self.record, &message);
             assert_eq!(reply.code, code::DONE, "a request comes to its keeper");
-            self.note(at, event(kind::TAKE), reply);
+            self.note(event(kind::TAKE), reply);
             self.send::<P>(asker, &answer);
         } else {
             let reply = P::bring(&mut self.record, &message);
             let is_done = matches!(reply.code, code::DONE | code::BLANK);
             assert!(is_done, "an answer comes to the desk that asked");
-            self.note(at, event(kind::BRING), reply);
+            self.note(event(kind::BRING), reply);
         }
     }
 
@@ -283,18 +308,11 @@ impl Worker<'_> {
         let mut bytes = vec![0xEE; frame::LONGEST];
         let used = P::write(message, &mut bytes).expect("a desk's own message has a frame");
         bytes.truncate(used + self.rng.index(4));
-        self.frames += 1;
-        // A desk ends only when nobody waits for it, or on alarm.
-        let _ = self.senders[usize::from(to)].send(bytes);
+        self.round.sent.push((to, bytes));
     }
 
-    fn now(&self) -> u64 {
-        self.next_step.fetch_add(1, Ordering::SeqCst)
-    }
-
-    fn note(&mut self, at: u64, event: Event, reply: Reply) {
-        self.log.push(Step {
-            at,
+    fn note(&mut self, event: Event, reply: Reply) {
+        self.round.steps.push(Step {
             event,
             reply,
             after: self.record,

@@ -5,12 +5,13 @@
 //!
 //! The rules: [`clock`] and [`data`], [`record`] (one desk), [`table`] (all desks), [`frame`],
 //! [`script`].
-//! The test tools: [`gen`] (seeded inputs), [`history`] (demand 3 decided on one run), [`ghost`]
+//! The test tools: [`gen`] (seeded inputs), [`cases`] (stored ones), [`history`] (demand 3 decided on one run), [`ghost`]
 //! (where each read came from, and the shortcuts), [`eight`] (eight desks in eight threads).
 
 #![forbid(unsafe_code)]
 #![warn(missing_docs)]
 
+pub mod cases;
 pub mod clock;
 pub mod data;
 pub mod eight;

@@ -3,10 +3,7 @@
 //! A yes is never believed: the line-up is held against the definition. A no is forced by the
 //! argument in `history`, and both answers are held against an exhaustive search over line-ups.
 
-mod common;
-
-use std::fs;
-
+use twin::cases::script_named;
 use twin::data::kind;
 use twin::gen::{self, Mood, Rng};
 use twin::ghost::{Ghost, Shortcut};
@@ -372,8 +369,8 @@ fn a_dozen_events_are_enough_to_catch_them() {
         ("no_drop_write", Shortcut::DropNothing),
         ("leave_old_copy", Shortcut::LeaveOld),
     ] {
-        let path = common::cases().join(format!("edge_shortcut_{name}_weak.in"));
-        let text = fs::read_to_string(&path).expect("a stored case");
+        let script = script_named(&format!("edge_shortcut_{name}_weak"));
+        let text = String::from_utf8(script.input).expect("text");
         let mut lines = text.lines().map(|line| -> Vec<u32> {
             let numbers = line.split(' ').map(|number| number.parse());
             numbers.collect::<Result<_, _>>().expect("numbers")

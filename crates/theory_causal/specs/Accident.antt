@@ -1,7 +1,7 @@
 -- Demand 3 is neither empty nor too weak: the client's accident has no order, nor has a history that breaks one clause alone.
 -- A good history has one.
 -- Assumes nothing.
-use mathlib.Core.Path.{_≡_, refl}
+use mathlib.Core.Path.{_≡_, refl, subst}
 use mathlib.Core.Logic.{_⊎_, inl, inr, ⊎-elim}
 use mathlib.Core.List.{List, [], _∷_}
 use Prim.Native.Nat.{ℕ, zero, suc, _≤_, _<_, min}
@@ -51,6 +51,16 @@ through x y z (v ∷ l) once (inr a) (inr b) = inr (through x y z l (λ w c. onc
 pub one-way : (x y : ℕ) (l : List ℕ) → ((z : ℕ) → Before z z l → ⊥) → Before x y l → Before y x l → ⊥
 one-way x y l once a b = once x (through x y x l once a b)
 
+-- a read of a write that another one of its cell has followed
+pub stale : {W : Words} {H : History W} {p : ℕ} {l : List ℕ} → Order H p l → (w v x : ℕ) → ReadBy H p x → H x .source ≡ from w
+    → Writes H (H x .cell) v → Causal H w v → Causal H v x → ⊥
+unfolding Nearest
+stale {H} {p} {l} o w v x r e k c d =
+    let near : Nearest H (λ a b. Before a b l) (H x .cell) x (from w) = rw e at (o .explains .nearest x r) in
+    let first = o .explains .causal w v (inl (near .0 .0)) (inl (k .0)) c in
+    let second = o .explains .causal v x (inl (k .0)) (inr r) d in
+    ⊎-elim (λ q. o .once w (subst (λ (u : ℕ). Before w u l) q first)) (one-way w v l (o .once) first) (near .2 v k second)
+
 -- ---- the accident: desk 0 writes a datum and then a coordinate; desk 1 sees the coordinate and then no datum
 unfoldable pub accident : List (Step numbers)
 accident = wrote 0 0 27 0 ∷ wrote 0 1 500 1 ∷ showed 1 1 500 (from 1) 2 ∷ showed 1 0 0 blank 3 ∷ []
@@ -86,12 +96,10 @@ unfoldable pub overwritten : List (Step numbers)
 overwritten = wrote 0 0 27 0 ∷ wrote 0 0 28 1 ∷ showed 0 0 27 (from 0) 2 ∷ []
 
 pub no-overwritten : Hopeless overwritten 0
-unfolding overwritten Nearest
+unfolding overwritten
 no-overwritten l o =
-    let first = o .explains .causal 0 1 (inl refl) (inl refl) (then (listed overwritten) 0 1 (inl refl) (inl refl) refl (omega arith)) in
-    let second =
-    o .explains .causal 1 2 (inl refl) (inr (refl, refl)) (then (listed overwritten) 1 2 (inl refl) (inr refl) refl (omega arith)) in
-    ⊎-elim (λ e. omega arith) (one-way 0 1 l (o .once) first) (o .explains .nearest 2 (refl, refl) .2 1 (refl, refl) second)
+    stale o 0 1 2 (refl, refl) refl (refl, refl) (then (listed overwritten) 0 1 (inl refl) (inl refl) refl (omega arith))
+    (then (listed overwritten) 1 2 (inl refl) (inr refl) refl (omega arith))
 
 -- ---- a read from the future
 unfoldable pub foreseen : List (Step numbers)

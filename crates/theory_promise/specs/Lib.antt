@@ -1,5 +1,6 @@
 pub mod Operations
 pub mod Promise
+pub mod InFull
 pub mod State
 pub mod Room
 pub mod Moves

@@ -12,9 +12,10 @@ use Rattle.theory_causal.specs.History.{Words, Source, blank, from, Step, nothi
 use Rattle.desk.specs.declared.Event.{Event}
 use Rattle.desk.specs.declared.Reply.{Reply}
 use Rattle.desk.specs.Desk.{Word, noWord, isNoWord}
+use Rattle.table.specs.Choice.{Engine, run}
 use Rattle.table.specs.declared.Outcome.{Outcome}
 use Rattle.table.specs.declared.Table.{Table}
-use Rattle.table.specs.Table.{slotOf, keeperFor}
+use Rattle.table.specs.Table.{seatOf, slotOf, keeperFor}
 
 -- the words of cells, and the one that stands where none was written
 abbrev pub words : Words
@@ -59,10 +60,10 @@ entry n g t e r =
     (cond (eqb (e .kind) 3 && eqb (r .code) 0 && eqb (s .kind) 1) (nothing, changed g p (answered (g p) (g k .source (s .cell))))
     (cond (eqb (e .kind) 3 && eqb (r .code) 0)
     (wrote p (s .cell) (s .word) (g p .asked), changed (changed g k (holding (g k) (s .cell) (from n))) p (answered (g p) (from n)))
-    -- a bring: an asked read is finished, or the answer to a write has arrived
+    -- a bring: an asked read is finished, or the answer to a write has arrived; with *served* on the cell is not held, so its source stays
     (cond (eqb (e .kind) 4 && isFinished (r .code)) (
       cond (eqb (s .kind) 3) (showed p (s .cell) (r .value) (g p .answer) (g p .asked)) nothing,
-      changed g p (holding (g p) (s .cell) (g p .answer)),
+      changed g p (holding (g p) (s .cell) (cond (seatOf t p .served) (g p .source (s .cell)) (g p .answer))),
     )
     -- a drop, or a refusal
     (nothing, g))))))
@@ -89,13 +90,18 @@ pub record Shows (r : Reply) (word : Word) : Type 0 where
 abbrev pub opened : Table → Account
 opened t = record { table = t; trails = λ p. record { source = λ c. blank; answer = blank; asked = 0 }; history = []; replies = [] }
 
-module _ (rule : Table → Event → Outcome) where
-  unfoldable pub next : Account → Event → Account
-  next a e =
-      let o = rule (a .table) e in
-      let m = entry (length (a .history)) (a .trails) (a .table) e (o .reply) in
-      record { table = o .after; trails = m .1; history = a .history ++ (m .0 ∷ []); replies = a .replies ++ (o .reply ∷ []) }
+-- one event more, refused or not, and its outcome
+unfoldable pub next : Account → Event → Outcome → Account
+next a e o =
+    let m = entry (length (a .history)) (a .trails) (a .table) e (o .reply) in
+    record { table = o .after; trails = m .1; history = a .history ++ (m .0 ∷ []); replies = a .replies ++ (o .reply ∷ []) }
 
-  unfoldable pub run : Account → List Event → Account
-  run a [] = a
-  run a (e ∷ es) = run (next a e) es
+-- what events and their outcomes tell, one outcome for each
+unfoldable pub told : Account → List Event → List Outcome → Account
+told a [] os = a
+told a (e ∷ es) [] = a
+told a (e ∷ es) (o ∷ os) = told (next a e o) es os
+
+-- a run of a rule from a table
+abbrev pub account : Engine → Table → List Event → Account
+account rule t es = told (opened t) es (run rule t es)

@@ -16,13 +16,12 @@ use Rattle.theory_lists.specs.Each.{mapAt}
 use Rattle.theory_lists.specs.Sum.{sum}
 use Rattle.theory_lists.specs.Test.{every, some}
 use Rattle.theory_refusals.specs.Refusals.{firstOf, unless}
-use Rattle.table.specs.declared.Outcome.{Outcome}
-use Rattle.table.specs.declared.Table.{Table}
+use Rattle.table.specs.Choice.{Engine, run}
 use Rattle.table.specs.Rules.{lines, refusal, outcome, messageOf, ownRule, putAnswer, keeperStep, takeRule, bringRule, done, eventRule}
 use Rattle.table.specs.SetUp.{freshTable, setUpRule}
 use Rattle.table.specs.Sound.{entrySound, cellsSound, seatsSound, tableSound}
 use Rattle.table.specs.Table.{recordOf, putBack}
-use Rattle.theory_promise.specs.Operations.{isFinished, entry, Account, opened, next, run}
+use Rattle.theory_promise.specs.Operations.{isFinished, entry, Account, next, told, account}
 
 abbrev pub event : (kind desk cell : ℕ) → Word → Event
 event k p c w = record { kind = k; desk = p; cell = c; word = w }
@@ -33,10 +32,10 @@ reply c v n = record { code = c; value = v; count = n }
 abbrev pub plan : (desks cells : ℕ) → (keepers : List ℕ) → Plan
 plan desks cells keepers = record { desks = desks; cells = cells; keepers = keepers }
 
-unfoldable pub played : (rule : Table → Event → Outcome) → Plan → List Event → Account
-unfolding run next entry isFinished changed either ℕ-discrete decLt decLe paired merged isBefore isWithin raised isNoWord isBlank keeps
+unfoldable pub played : Engine → Plan → List Event → Account
+unfolding run told next entry isFinished changed either ℕ-discrete decLt decLe paired merged isBefore isWithin raised isNoWord isBlank keeps
     isCopy isLost leftOf lossOf waits isAsked isAnswered isOwn readRule writeRule dropRule seatLines eventDone readServed takes
     writeServed serveDone brings bringDone countsSound placeSound traySound cellFits cellSound slotNames slotCarries slotSound seatSound
     freshTray keepersRight setUpLines setUpRefusal mapAt sum every some firstOf unless lines refusal outcome messageOf ownRule putAnswer
     keeperStep takeRule bringRule done eventRule freshTable setUpRule entrySound cellsSound seatsSound tableSound recordOf putBack
-played rule p events = run rule (opened (setUpRule p .table)) events
+played rule p events = account rule (setUpRule p .table) events

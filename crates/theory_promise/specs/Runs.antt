@@ -13,13 +13,15 @@ use Rattle.desk.specs.declared.Event.{Event}
 use Rattle.desk.specs.declared.Plan.{Plan}
 use Rattle.desk.specs.declared.Reply.{Reply}
 use Rattle.desk.specs.Start.{freshTray, setUpRefusal}
+use Rattle.table.specs.Choice.{run}
+use Rattle.table.specs.declared.Outcome.{Outcome}
 use Rattle.table.specs.declared.SetUp.{SetUp}
 use Rattle.table.specs.Fresh.{fresh-sized}
 use Rattle.table.specs.Rules.{eventRule}
 use Rattle.table.specs.SetUp.{freshTable, notSetUp, setUpRule}
 use Rattle.theory_refusals.specs.Refusals.{unless-either}
 use Rattle.theory_promise.specs.Link.{Tied, linked}
-use Rattle.theory_promise.specs.Operations.{words, entry, Account, noReply, repliedAt, opened, next, run}
+use Rattle.theory_promise.specs.Operations.{words, entry, Account, noReply, repliedAt, opened, next, told, account}
 use Rattle.theory_promise.specs.Room.{Room}
 use Rattle.theory_promise.specs.Start.{start, fresh-clocks}
 use Rattle.theory_promise.specs.State.{clash, state}
@@ -35,8 +37,11 @@ pub record Runs (a : Account) : Type 0 where
 seam : {A : Type 0} (l : List A) (a d : A) (x : ℕ) → x ≡ length l → getD (l ++ (a ∷ [])) x d ≡ a
 seam l a d x e = rw e (getD-append-seam l a [] d)
 
+abbrev outcome : Account → Event → Outcome
+outcome a e = eventRule (a .table) e
+
 abbrev reply : Account → Event → Reply
-reply a e = eventRule (a .table) e .reply
+reply a e = outcome a e .reply
 
 abbrev step : Account → Event → Step words
 step a e = entry (length (a .history)) (a .trails) (a .table) e (reply a e) .0
@@ -54,7 +59,7 @@ module _ (h : List (Step words)) (l : List Reply) (o : Step words) (r : Reply) (
         ]
       ]
 
-runs-next : (a : Account) (e : Event) → Runs a → Runs (next eventRule a e)
+runs-next : (a : Account) (e : Event) → Runs a → Runs (next a e (outcome a e))
 unfolding next
 runs-next a e r =
     let k = linked (length (a .history)) (a .table) (a .trails) (r .room) e in
@@ -65,10 +70,10 @@ runs-next a e r =
       tied = tied-next (a .history) (a .replies) (step a e) (reply a e) noReply (r .long) (r .tied) (k .tied);
     }
 
-pub runs-all : (a : Account) (events : List Event) → Runs a → Runs (run eventRule a events)
-unfolding run
+pub runs-all : (a : Account) (events : List Event) → Runs a → Runs (told a events (run eventRule (a .table) events))
+unfolding run told next
 runs-all a [] r = r
-runs-all a (e ∷ es) r = runs-all (next eventRule a e) es (runs-next a e r)
+runs-all a (e ∷ es) r = runs-all (next a e (outcome a e)) es (runs-next a e r)
 
 -- ---- from a set-up that is not refused
 module _ (p : Plan) (long : length (p .keepers) ≡ 32) where
@@ -80,7 +85,7 @@ module _ (p : Plan) (long : length (p .keepers) ≡ 32) where
     tied = λ x k. clash (cc);
   }
 
-  pub runs-from : setUpRule p .code ≡ 0 → (events : List Event) → Runs (run eventRule (opened (setUpRule p .table)) events)
+  pub runs-from : setUpRule p .code ≡ 0 → (events : List Event) → Runs (account eventRule (setUpRule p .table) events)
   unfolding setUpRule
   runs-from ok events =
       runs-all _ events

@@ -11,9 +11,9 @@ use native.Mathlib.Omega.{arith}
 use borrow.Author.Tests.{ne-eqb}
 use lib.Dec.{eqb}
 use lib.ListN.{length, replicate}
-use Rattle.theory_causal.specs.Accident.{then, late, through}
+use Rattle.theory_causal.specs.Accident.{then, late, stale, through}
 use Rattle.theory_causal.specs.Demand.{Before, Nearest, Order}
-use Rattle.theory_causal.specs.History.{blank, from, Step, nothing, wrote, showed, listed, wordOf, shown, chain}
+use Rattle.theory_causal.specs.History.{blank, from, Step, nothing, wrote, showed, listed, shown, chain}
 use Rattle.clock.specs.Clock.{merged}
 use Rattle.desk.specs.declared.Event.{Event}
 use Rattle.desk.specs.declared.Message.{Message}
@@ -113,15 +113,18 @@ drops-nothing-breaks =
     o .explains .nearest 9 (refl, refl) 3 (refl, refl) (through 3 7 9 l (o .once) (through 3 4 7 l (o .once) datum-first overwritten) own-last))
 
 -- Desk 0 keeps cell 0 and desk 1 cell 1. Desk 1 writes 27 in cell 0 and then 28, and serves a write of desk 0's before the second answer,
--- which carries 28, arrives; then it reads 27. (Said to come from 27 itself, it has no order either: `overwritten` in theory_causal.)
+-- which carries 28, arrives; then it reads 27, which its own 28 has followed.
 unfoldable pub third : List (Step words)
 third =
-    nothing ∷ nothing ∷ wrote 1 0 27 1 ∷ nothing ∷ nothing ∷ wrote 1 0 28 4 ∷ wrote 0 1 5 0 ∷ nothing ∷ showed 1 0 27 (from 5) 8 ∷ []
+    nothing ∷ nothing ∷ wrote 1 0 27 1 ∷ nothing ∷ nothing ∷ wrote 1 0 28 4 ∷ wrote 0 1 5 0 ∷ nothing ∷ showed 1 0 27 (from 2) 8 ∷ []
 
 pub leaves-copy-breaks : Demand3 (withBring leavesCopy) → ⊥
-unfolding played withBring leavesCopy third wordOf
+unfolding played withBring leavesCopy third
 leaves-copy-breaks =
     broken (withBring leavesCopy) (plan 2 2 (0 ∷ 1 ∷ replicate 30 0))
     (event 2 0 1 5 ∷ event 2 1 0 27 ∷ event 3 1 0 0 ∷ event 4 1 0 0 ∷ event 2 1 0 28 ∷ event 3 1 0 0 ∷ event 3 0 0 0 ∷ event 4 1 0 0
     ∷ event 1 1 0 0 ∷ [])
-    third 1 refl refl refl (λ l o. omega (arith, o .explains .word 8 (refl, refl)))
+    third 1 refl refl refl
+    (λ l o.
+    stale o 2 5 8 (refl, refl) refl (refl, refl) (then (listed third) 2 5 (inl refl) (inl refl) refl (omega arith))
+    (then (listed third) 5 8 (inl refl) (inr refl) refl (omega arith)))

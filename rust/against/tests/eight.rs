@@ -1,8 +1,8 @@
 //! Eight desks as eight records of the proved library in eight threads, with nothing but its frames
-//! between them. Threads are not repeatable; what they did is, and both engines replay it.
+//! between them. They do what the twin's desks do from the same seed, and both tables replay it.
 
 use against::{Proved, ProvedTable};
-use twin::eight::{check, run, Checked, Part};
+use twin::eight::{check, run, Checked, Part, Twin};
 use twin::{Event, Message, Record, Reply, Table};
 
 #[test]
@@ -10,7 +10,11 @@ fn eight_proved_desks_do_what_both_tables_do() {
     let mut sum = Checked::default();
     let mut frames = 0;
     for seed in 0..40 {
-        let run = run::<Proved>(seed, 150);
+        let (run, twins) = (run::<Proved>(seed, 150), run::<Twin>(seed, 150));
+        assert!(
+            run == twins,
+            "seed {seed}: the twin's desks do something else"
+        );
         let [twins, ours] = [check::<Table>, check::<ProvedTable>]
             .map(|check| check(&run).unwrap_or_else(|why| panic!("seed {seed}: {why}")));
         assert_eq!(twins, ours, "seed {seed}");
@@ -19,7 +23,7 @@ fn eight_proved_desks_do_what_both_tables_do() {
     }
     println!("{frames} frames; {sum:?}");
     assert!(
-        sum.served_waiting > 1_000 && sum.datums_after_coordinates > 1_000,
+        sum.served_waiting > 10_000 && sum.datums_after_coordinates > 5_000,
         "{sum:?}"
     );
 }
@@ -44,8 +48,8 @@ impl Part for KeepsServed {
 
 #[test]
 fn a_part_that_is_not_the_librarys_is_found_out() {
-    let found =
-        (0..100).find(|&seed| check::<ProvedTable>(&run::<KeepsServed>(seed, 150)).is_err());
-    println!("found out in run {found:?}");
-    assert!(found.is_some());
+    for seed in 0..10 {
+        let found_out = check::<ProvedTable>(&run::<KeepsServed>(seed, 150)).is_err();
+        assert!(found_out, "seed {seed}");
+    }
 }

@@ -1,13 +1,13 @@
 -- 4 Bring as a move of one desk.
 -- Assumes nothing.
 use mathlib.Core.Path.{_≡_, refl, sym, _∙_}
-use mathlib.Core.Bool.{Bool, true, false}
+use mathlib.Core.Bool.{Bool, true, false, cond}
 use mathlib.Core.Logic.{_≢_}
 use Prim.Native.Nat.{ℕ, _<_}
 use native.Mathlib.Omega.{arith}
 use lib.Seq.{getD-set-other}
 use Rattle.theory_causal.specs.Changed.{changed, changed-here, changed-elsewhere}
-use Rattle.theory_causal.specs.History.{Step, nothing, showed}
+use Rattle.theory_causal.specs.History.{Source, Step, nothing, showed}
 use Rattle.theory_causal.specs.Keepers as causal
 use Rattle.theory_causal.specs.Machine.{Held, held, read-answered, write-answered, brings-read, brings-write}
 use Rattle.theory_causal.specs.Machine as machine
@@ -35,8 +35,12 @@ module _ (n : ℕ) (t : Table) (g : Trails) (z : Room t) (p : ℕ) (there : p < 
   abbrev answer : Held words
   answer = heldOf (g p .answer) (m .word) (m .clock)
 
+  -- with *served* on the named cell is not held, and no source is named for it
+  abbrev named-source : Bool → Source
+  named-source on = cond on (g p .source (m .cell)) (g p .answer)
+
   abbrev b : Trail
-  b = holding (g p) (m .cell) (g p .answer)
+  b = holding (g p) (m .cell) (named-source (v .seat .served))
 
   abbrev new : ℕ → machine.Cell words
   new = cellsOf (brings v m .row) (b .source)
@@ -53,12 +57,12 @@ module _ (n : ℕ) (t : Table) (g : Trails) (z : Room t) (p : ℕ) (there : p < 
   unfolding cellOf brings
   named k e = go (v .seat .served) refl (sym here ∙ e)
     where
-      here : new (m .cell) ≡ cellOf (brought (v .seat .served) m) (g p .answer)
+      here : new (m .cell) ≡ cellOf (brought (v .seat .served) m) (named-source (v .seat .served))
       here =
           set-here (learns (holds v (m .cell) noCell) (m .clock) .row) (g p .source) (m .cell) _ _
           (omega (arith, brings-same v m .same-length, row-length t p (z .sized) there))
 
-      go : (on : Bool) → v .seat .served ≡ on → cellOf (brought on m) (g p .answer) ≡ held k → (k ≡ answer) × (v .seat .served ≡ false)
+      go : (on : Bool) → v .seat .served ≡ on → cellOf (brought on m) (named-source on) ≡ held k → (k ≡ answer) × (v .seat .served ≡ false)
       go true i e = clash (cc)
       go false i e = (cc, i)
 
