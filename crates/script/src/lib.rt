@@ -20,10 +20,9 @@ ghost use Rattle.text.specs.Printing.{Put};
 ghost use Rattle.text.specs.Script.{run as Script·run, sized, answer as Script·answer};
 ghost use Rattle.script.specs.Rules.{setUp, event};
 
-// Puts what the whole input must answer at the start of out, and says how many bytes it has. The room that it asks for is enough for
-// any input: a reply of at most 33 bytes to each event of at least 8, in 65,536 bytes, and a last line.
-pub fn answer(s: &[u8], out: &mut [u8]) -> usize
-    requires { ⌜ 270400 ≤ length (now out) ⌝ }
+// Puts what the whole input must answer at the start of out, and says how many bytes it has. The room is enough for any input: a reply of
+// at most 33 bytes to each event of at least 8, in 65,536 bytes, and a last line.
+pub fn answer(s: &[u8], out: &mut [u8; 270400]) -> usize
     ensures { λ r. ⌜ Put (Script·answer setUp event (now (s .entry))) (now (out .entry)) 0 (now (out .exit)) r ⌝ }
     ensures { λ r. ⌜ r ≤ 270400 ⌝ }
 {

@@ -1,6 +1,6 @@
 -- What the functions that print leave: a text put into a list at a place, and the place after it.
 -- Assumes nothing.
-use mathlib.Core.Path.{_≡_, ap}
+use mathlib.Core.Path.{_≡_, sym, ap, _∙_}
 use mathlib.Core.List.{List, [], _∷_, _++_, append-assoc}
 use Prim.Native.Nat.{ℕ, suc, _+_, _≤_, _<_}
 use native.Mathlib.Numerals.{add-one}
@@ -17,6 +17,11 @@ Room text out at = at + length text ≤ length out
 pub record Put (text old : List ℕ) (at : ℕ) (new : List ℕ) (next : ℕ) : Type 0 where
   pub bytes : new ≡ sets old at text
   pub after : next ≡ at + length text
+
+-- it leaves no choice
+pub no-choice : {text old new new′ : List ℕ} {at next next′ : ℕ} → Put text old at new next → Put text old at new′ next′
+    → (new ≡ new′) × (next ≡ next′)
+no-choice p q = (p .bytes ∙ sym (q .bytes), p .after ∙ sym (q .after))
 
 unfoldable pub ended : ℕ → ℕ → List ℕ
 ended n end = decimal n ++ end ∷ []

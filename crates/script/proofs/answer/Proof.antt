@@ -13,33 +13,27 @@ use Rattle.script.proofs.answer.Tie as tie
 
 put-too-long-requires : tie.Need-put-too-long-requires
 unfolding tooLong
-put-too-long-requires c κs = omega (arith, c .before .before .before .before .pre)
-
-same-length : tie.Need-same-length
-same-length c = search needs
+put-too-long-requires c κs = omega (arith, c .put-too-long-arg .given)
 
 returns : tie.Need-returns
 unfolding tooLong
 returns c =
-    let s = c .before .before .before .before .before .before .before .args .s .now in
-    let put = c .before .before .put-too-long .ensures in
+    let s = c .before .before .before .before .args .s .now in
+    let put = c .put-too-long .ensures in
     (rw (answer-long setUp event s (omega arith)) put, omega (arith, put .after))
 
 read-line-requires : tie.Need-read-line-requires
 read-line-requires c κs = search needs
 
 put-bad-line-requires : tie.Need-put-bad-line-requires
-put-bad-line-requires c κs = omega (arith, c .before .before .before .before .before .before .pre, length-bad-line 1 (omega arith))
-
-same-length-2 : tie.Need-same-length-2
-same-length-2 c = search needs
+put-bad-line-requires c κs = omega (arith, c .put-bad-line-arg .given, length-bad-line 1 (omega arith))
 
 returns-2 : tie.Need-returns-2
 returns-2 c =
-    let s = c .before .before .before .before .before .before .before .before .before .args .s .now in
-    let q = c .before .before .before .before .before .read-line .ensures in
-    let other = c .before .before .before .before .if2 .taken in
-    let put = c .before .before .put-bad-line .ensures in (
+    let s = c .before .before .before .before .before .before .args .s .now in
+    let q = c .before .before .before .read-line .ensures in
+    let other = c .before .before .if2 .taken in
+    let put = c .put-bad-line .ensures in (
       rw (answer-begun setUp event s (omega arith), first-bad setUp event s 0 (λ e. other (ap (λ (x : Line). x .count) q ∙ e))) put,
       omega (arith, put .after, length-bad-line 1 (omega arith)),
     )
@@ -51,32 +45,26 @@ element-copy-out-begin-2 : tie.Need-element-copy-out-begin-2
 element-copy-out-begin-2 c = search needs
 
 begin-requires : tie.Need-begin-requires
-begin-requires c κs = (omega arith, c .before .before .before .before .before .before .before .before .pre)
-
-same-length-3 : tie.Need-same-length-3
-same-length-3 c = search needs
+begin-requires c κs = search needs
 
 returns-3 : tie.Need-returns-3
 returns-3 c =
-    let s = c .before .before .before .before .before .before .before .before .before .before .before .args .s .now in
-    let q = c .before .before .before .before .before .before .before .read-line .ensures in
-    let two = sym (ap (λ (x : Line). x .count) q) ∙ c .before .before .before .before .before .before .if2 .left in
+    let s = c .before .before .before .before .before .before .before .before .args .s .now in
+    let q = c .before .before .before .before .before .read-line .ensures in
+    let two = sym (ap (λ (x : Line). x .count) q) ∙ c .before .before .before .before .if2 .left in
     rw (answer-begun setUp event s (omega arith), first-read setUp event s 0 two, ← q)
-    (c .before .before .begin .ensures)
+    (c .begin .ensures)
 
 pub answer-spec : {M : Type 1} → statement M
 answer-spec =
     tie.close
     (tie.spec
     put-too-long-requires
-    same-length
     returns
     read-line-requires
     put-bad-line-requires
-    same-length-2
     returns-2
     element-copy-out-begin
     element-copy-out-begin-2
     begin-requires
-    same-length-3
     returns-3)

@@ -1,16 +1,18 @@
 -- `script_main::main` is safe: what it lends and writes is within its two arrays.
 -- Assumes nothing.
 use borrow.Author.Needs.{needs}
-use mathlib.Core.Path.{_≡_, sym}
+use mathlib.Core.Path.{sym}
+use mathlib.Core.List.{List}
 use Prim.Native.Nat.{ℕ, _≤_}
 use lib.ListN.{length, replicate, length-replicate}
-use lib.Seq.{length-take-le}
+use lib.Seq.{length-take-le, length-sets}
+use Rattle.text.specs.Printing.{Put}
 use Rattle.script_main.proofs.main.Statement.{statement}
 use Rattle.script_main.proofs.main.Tie as tie
 
 -- the answer's bytes are within the room that it was given
-fits : {n room : ℕ} → n ≤ 270400 → room ≡ length (replicate {A = ℕ} 270400 0) → n ≤ room
-fits h e = rw (e, length-replicate {A = ℕ} 270400 0) h
+fits : {text new : List ℕ} {n : ℕ} → Put text (replicate {A = ℕ} 270400 0) 0 new n × (n ≤ 270400) → n ≤ length new
+fits {text} (put, h) = rw (put .bytes, length-sets (replicate {A = ℕ} 270400 0) 0 text, length-replicate {A = ℕ} 270400 0) h
 
 slice-aggregate-read-all : tie.Need-slice-aggregate-read-all
 slice-aggregate-read-all c = search needs
@@ -35,19 +37,15 @@ slice-aggregate-answer c =
     let read = c .before .before .before .before .read-all in
     sym (length-take-le _ _ (rw (read .kept .0) (read .ensures)))
 
-slice-aggregate-answer-2 : tie.Need-slice-aggregate-answer-2
-slice-aggregate-answer-2 c = search needs
-
 answer-requires : tie.Need-answer-requires
 answer-requires c κs = search needs
 
 array-share-prefix-out : tie.Need-array-share-prefix-out
-array-share-prefix-out c = fits (c .before .answer .ensures .1) (c .before .answer .kept .1 .0)
+array-share-prefix-out c = fits (c .answer .ensures)
 
 slice-aggregate-write-all : tie.Need-slice-aggregate-write-all
 slice-aggregate-write-all c =
-    let put = c .before .before .answer in
-    sym (length-take-le _ _ (fits (put .ensures .1) (put .kept .1 .0)))
+    sym (length-take-le _ _ (fits (c .before .answer .ensures)))
 
 write-all-requires : tie.Need-write-all-requires
 write-all-requires c κs = search needs
@@ -75,7 +73,6 @@ main-spec =
     returns
     array-share-prefix-space
     slice-aggregate-answer
-    slice-aggregate-answer-2
     answer-requires
     array-share-prefix-out
     slice-aggregate-write-all
