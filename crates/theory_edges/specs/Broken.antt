@@ -1,5 +1,6 @@
 -- "A table is sound if", condition by condition: one sound table, and tables and records that differ from it in one field and are not sound; and fresh
--- tables with a count out of range. Each breaks one condition alone, so none can be dropped unnoticed. (But with no desk no keeper is a desk either.)
+-- tables with a count out of range. For each condition one of them breaks it alone, so none can be dropped unnoticed. (Only "at least 1 desk" is never
+-- broken alone: with no desk no keeper is a desk.)
 -- Assumes nothing.
 use mathlib.Core.Path.{_≡_, refl}
 use mathlib.Core.Bool.{Bool, true, false}

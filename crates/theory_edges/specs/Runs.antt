@@ -118,8 +118,8 @@ unfolding ran equal
 equal-run = refl
 
 -- Desk 0 keeps cells 0 and 2 and has a copy of cell 1. It writes cell 0 itself, which drops nothing. Then it takes desk 2's write of cell 2: its copy,
--- of stamp (0,1,0), is strictly before the merged clock (1,1,1) and not before the sent one, (0,0,1), and stays.
--- Rules out: dropping at a take what is before the merged clock; dropping at the keeper's own write.
+-- of stamp (0,1,0), is strictly before the merged clock (1,1,1) and not before the sent one, (0,0,1), and stays. The answer has the merged clock.
+-- Rules out: dropping at a take what is before the merged clock; dropping at the keeper's own write; answering a write with the sent clock.
 unfoldable pub sent : Run
 sent =
     record {
@@ -139,8 +139,9 @@ sent =
 
 pub sent-run : Replied sent
     × (cellsAfter sent 0 ≡ heldCell 7 (clock (1 ∷ 1 ∷ [])) ∷ heldCell 5 (clock (0 ∷ 1 ∷ [])) ∷ heldCell 8 (clock (1 ∷ 1 ∷ 1 ∷ [])) ∷ [])
+    × (cellsAfter sent 2 ≡ noCell ∷ noCell ∷ heldCell 8 (clock (1 ∷ 1 ∷ 1 ∷ [])) ∷ [])
 unfolding ran sent
-sent-run = (refl, refl)
+sent-run = (refl, refl, refl)
 
 -- Desk 1 reads cell 1, of stamp (1,0,0), when its keeper's clock is (3,0,0). Its copy of cell 0, of stamp (2,0,0), is before that clock and not before
 -- that stamp, and stays; its clock is merged with the stamp. What its keeper writes after the take does not show.
@@ -172,8 +173,8 @@ pub stamped-run : Replied stamped
 unfolding ran stamped
 stamped-run = (refl, refl, refl)
 
--- Both desks serve a write while they wait. Desk 1 waits for its second write of cell 0; its old copy is beside the clock sent to it, so it goes at the
--- bring, not counted, and the answer is not held. The next answers are held: *served* was cleared, and a read served does not set it.
+-- Both desks serve a write while they wait, desk 0 asked and desk 1 answered. Desk 1 has written cell 0 again; its old copy is beside the clock sent to
+-- it, so it goes at the bring, not counted, and the answer is not held. The next answers are held: *served* was cleared, and a read served does not set it.
 -- Rules out: keeping the answer or the old copy where *served* is on; counting the old copy; *served* at a read, or left at the bring;
 -- raising the writer's own clock when it asks: the stamp of cell 1 would be (1,2).
 unfoldable pub served : Run
@@ -186,8 +187,8 @@ served =
           ∷ (take 1, reply 0 0 0)
           ∷ (bring 1, reply 0 31 0)
           ∷ (write 1 0 42, reply 1 0 0)
-          ∷ (take 0, reply 0 0 0)
           ∷ (take 1, reply 0 0 0)
+          ∷ (take 0, reply 0 0 0)
           ∷ (bring 1, reply 0 42 0)
           ∷ (read 1 0, reply 1 0 0)
           ∷ (take 1, reply 0 0 0)
