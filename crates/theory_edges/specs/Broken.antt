@@ -43,7 +43,7 @@ answered kind c w stamp = record { kind = kind; cell = c; word = w; clock = stam
 
 -- Desk 0 has a copy of cell 1, whose stamp is above every clock. Desk 1 has asked to read a cell of which it has a copy, and has served a write.
 -- Desk 2 has asked to write; the read of desk 3 and the write of desk 4 are answered. Desk 5 is fresh; 6 and 7 are absent.
-abbrev right : Table
+abbrev pub right : Table
 right =
     record {
       cells = set (set (freshTable tray .cells) 1 (heldCell 5 (clock (0 ∷ 9 ∷ 0 ∷ 0 ∷ 0 ∷ 1 ∷ [])))) 32 (heldCell 0 (clock []));
@@ -58,7 +58,7 @@ right =
     }
 
 -- a fresh table, whose cells desk 0 keeps
-abbrev fresh : (desks cells : ℕ) → Table
+abbrev pub fresh : (desks cells : ℕ) → Table
 fresh d c = freshTable (record { counts = record { desks = d; cells = c }; places = replicate 32 noPlace })
 
 -- ---- the sound one with one field changed

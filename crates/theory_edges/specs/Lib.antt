@@ -1,5 +1,6 @@
 pub mod Broken
 pub mod Edges
 pub mod Laws
+pub mod Orders
 pub mod Runs
 pub mod Wrong
