@@ -174,14 +174,12 @@ module _ (v : Record) (e : Event) (none : eventRefusal v e ≡ 0) where
 unfoldable pub takeIn : Record → Message → Record
 takeIn v m = storeIn (lostIn v (m .clock)) (m .cell) (tookSeat (v .seat) (m .clock)) (m .word)
 
-unfoldable pub servedIn : Record → Message → Record
-servedIn v m = cond (eqb (m .kind) 2) (takeIn v m) v
+-- a write is answered with what was stored, a read with what stands there
+abbrev pub takeAnswer : Record → Message → Answer
+takeAnswer v m = servedAnswer (lossIn v (m .clock)) m (heldCell (m .word) (tookSeat (v .seat) (m .clock) .clock))
 
-unfoldable pub servedCount : Record → Message → ℕ
-servedCount v m = cond (eqb (m .kind) 2) (lossIn v (m .clock)) 0
-
-abbrev pub serveAnswer : Record → Message → Answer
-serveAnswer v m = servedAnswer (servedCount v m) m (cellAt (servedIn v m .row) (m .cell))
+abbrev pub readAnswer : Record → Message → Answer
+readAnswer v m = servedAnswer 0 m (cellAt (v .row) (m .cell))
 
 module _ (v : Record) (long : length (v .row) ≡ 32) (m : Message) (none : serveRefusal v m ≡ 0) where
   abbrev s : Served v m
@@ -196,26 +194,14 @@ module _ (v : Record) (long : length (v .row) ≡ 32) (m : Message) (none : serv
       ap (λ (u : Record). storeIn u (m .cell) (tookSeat (v .seat) (m .clock)) (m .word))
       (lost-is v long (serves .tray-is .cells-most) (serves .row-is) (m .clock))
 
-  shown : cellAt (takes v m .row) (m .cell) ≡ heldCell (m .word) (takes v m .seat .clock)
-  unfolding takes leftOf
-  shown =
-      getD-set-same (leftOf (v .tray) (v .desk) (m .clock) (v .row)) (m .cell) (heldCell (m .word) (takes v m .seat .clock)) pastCell
-      (omega (arith, length-mapAt (leftAt (v .tray) (v .desk) (m .clock)) (v .row), long, serve-place v m none .0))
+  pub take-serves : m .kind ≡ 2 → (takeAnswer v m ≡ answerOf (serveDone v m)) × (takeIn v m ≡ serveDone v m .after)
+  unfolding takes serveDone writeServed
+  take-serves k =
+      rw (ne-eqb (m .kind) 1 (omega arith), take-is, loss-is v long (serves .tray-is .cells-most) (serves .row-is) (m .clock)) (refl, refl)
 
-  pub serve-in : (serveAnswer v m ≡ answerOf (serveDone v m)) × (servedIn v m ≡ serveDone v m .after)
-  unfolding servedIn servedCount serveDone readServed writeServed
-  serve-in =
-      ⊎-elim (λ k. rw (eq-eqb (m .kind) 1 k, ne-eqb (m .kind) 2 (omega arith)) (refl, refl))
-      (λ k.
-      rw (
-        ne-eqb (m .kind) 1 (omega arith),
-        eq-eqb (m .kind) 2 k,
-        take-is,
-        shown,
-        loss-is v long (serves .tray-is .cells-most) (serves .row-is) (m .clock),
-      )
-      (refl, refl))
-      (s .kind)
+  pub read-serves : (m .kind ≡ 2 → ⊥) → (readAnswer v m ≡ answerOf (serveDone v m)) × (v ≡ serveDone v m .after)
+  unfolding serveDone readServed
+  read-serves ne = ⊎-elim (λ k. rw (eq-eqb (m .kind) 1 k) (refl, refl)) (λ k. absurd (ne k)) (s .kind)
 
 -- ---- bringing: the named cell is no copy while the others are looked at
 abbrev pub without : Record → Message → Record

@@ -9,7 +9,7 @@ use mir.Syntax.{w8, w32, w64}
 use Rattle.desk.specs.declared.Record.{Record}
 use Rattle.desk.specs.declared.Step.{Step}
 use Rattle.desk.specs.Desk.{cellAt, placeAt}
-use Rattle.desk.specs.InPlace.{lostIn, lossIn, storeIn, takeIn}
+use Rattle.desk.specs.InPlace.{lostIn, lossIn, storeIn, takeAnswer, takeIn}
 use Rattle.desk.specs.Rules.{answerOf, eventLines, eventRefusal, eventDone, eventRule}
 use Rattle.desk.specs.Rules.{serveLines, serveRefusal, serveDone, serveRule, bringLines, bringRefusal, bringDone, bringRule}
 use Rattle.theory_refusals.specs.Refusals.{firstOf}
@@ -58,8 +58,9 @@ store =
 
 abbrev pub take-write : LentFn desk-record
 take-write =
-    gives desk-record (message ∷ []) (number w32) (where-holds (λ x. (x .1 .0 .cell < 32) × (x .0 .tray .counts .cells ≤ 32)))
-    (λ v a. lossIn v (a .0 .clock)) (λ v a. takeIn v (a .0))
+    gives desk-record (message ∷ []) answer
+    (where-holds (λ x. (x .1 .0 .cell < 32) × (x .1 .0 .kind < 3) × (x .0 .tray .counts .cells ≤ 32)))
+    (λ v a. takeAnswer v (a .0)) (λ v a. takeIn v (a .0))
 
 -- a step: it answers, and leaves the record afterwards
 abbrev steps : (P : Plain) → Pre (Record × Args (P ∷ [])) → (Record → Of P → Step) → LentFn desk-record

@@ -2,7 +2,7 @@
 ghost use mathlib.Core.Path.{_≡_};
 ghost use Prim.Native.Nat.{_<_, _≤_};
 ghost use Rattle.desk.specs.Desk.{cellAt, placeAt};
-ghost use Rattle.desk.specs.InPlace.{lostIn, lossIn, storeIn, takeIn};
+ghost use Rattle.desk.specs.InPlace.{lostIn, lossIn, storeIn, takeAnswer, takeIn};
 ghost use Rattle.desk.specs.Rules.{answerOf, eventRefusal, eventDone, eventRule, serveRefusal, serveDone, serveRule};
 ghost use Rattle.desk.specs.Rules.{bringRefusal, bringDone, bringRule};
 ghost use Rattle.desk.specs.Sound.{isSound};
@@ -147,15 +147,15 @@ fn own(v: &mut Record, e: Event) -> Answer
     own_answer(kept, x, e, own_counts(v), desk, own_seat(v))
 }
 
-// The keeper takes the write of a request; how many copies it loses.
-fn take_write(v: &mut Record, m: Message) -> u32
-    requires { ⌜ (m .cell < 32) × (now v .tray .counts .cells ≤ 32) ⌝ }
-    ensures { λ r. ⌜ (r ≡ lossIn (now (v .entry)) (m .clock)) × (now (v .exit) ≡ takeIn (now (v .entry)) m) ⌝ }
+// The keeper takes the write of a request. It answers from what it stores: to read that back from the row would take as long as a short sweep.
+fn take_write(v: &mut Record, m: Message) -> Answer
+    requires { ⌜ (m .cell < 32) × (m .kind < 3) × (now v .tray .counts .cells ≤ 32) ⌝ }
+    ensures { λ r. ⌜ (r ≡ takeAnswer (now (v .entry)) m) × (now (v .exit) ≡ takeIn (now (v .entry)) m) ⌝ }
 {
     let count = lose(v, sent_clock(m));
     let s = took(own_seat(v), sent_clock(m));
     store(v, named_cell(m), s, sent_word(m));
-    count
+    served_answer(count, m, storing(s, sent_word(m)))
 }
 
 // A request that nothing refuses.
@@ -163,11 +163,10 @@ fn take(v: &mut Record, m: Message) -> Answer
     requires { ⌜ serveRefusal (now v) m ≡ 0 ⌝ }
     ensures { λ r. ⌜ (r ≡ answerOf (serveDone (now (v .entry)) m)) × (now (v .exit) ≡ serveDone (now (v .entry)) m .after) ⌝ }
 {
-    let mut count: u32 = 0;
     if sends_write(m) {
-        count = take_write(v, m);
+        return take_write(v, m);
     }
-    served_answer(count, m, own_cell(v, named_cell(m)))
+    served_answer(0, m, own_cell(v, named_cell(m)))
 }
 
 // An answer that nothing refuses. The named cell is no copy while the others are looked at.

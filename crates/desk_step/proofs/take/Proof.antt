@@ -1,14 +1,10 @@
 -- `desk_step::take` meets its contract.
 -- Assumes nothing.
-use mathlib.Core.List.{[], _∷_}
-use mathlib.Core.Option.{none, some}
-use mathlib.Core.Path.{refl, sym, ap, subst}
-use Prim.Native.Nat.{ℕ, _<_, _^_}
+use mathlib.Core.Path.{refl, ap, subst}
+use borrow.Author.Tests.{eqb-true, eqb-false}
 use lib.Dec.{eqb, lit<}
-use mir.Syntax.{w32}
-use mir.Val.{vint, vptr}
 use Rattle.desk.specs.Desk.{cellAt}
-use Rattle.desk.specs.InPlace.{lossIn, takeIn, servedIn, servedCount, serve-in}
+use Rattle.desk.specs.InPlace.{take-serves, read-serves}
 use Rattle.desk.specs.RuleLaws.{served, serve-place}
 use Rattle.desk.specs.SoundLaws.{sound-rule}
 use Rattle.desk_acts.proofs.Acts as acts
@@ -21,11 +17,11 @@ use Rattle.desk_acts.proofs.served_answer.Symbol as served-answer
 use Rattle.desk_parts.proofs.Parts as parts
 use Rattle.desk_parts.proofs.own_cell.Met as own-cell-thm
 use Rattle.desk_parts.proofs.own_cell.Symbol as own-cell
-use Rattle.walks.proofs.Branch.{if-yes, if-no}
+use Rattle.walks.proofs.Branch.{is-true, is-false}
 use Rattle.walks.proofs.Callees.{lent, valued}
 use Rattle.walks.proofs.Lent.{calling}
 use Rattle.walks.proofs.Plain.{val, IsOf}
-use Rattle.walks.proofs.Walk.{_⨟_, joined}
+use Rattle.walks.proofs.Walk.{_⨟_, apart}
 use Rattle.desk_step.proofs.Steps as steps
 use Rattle.desk_step.proofs.Steps.{row-long}
 use Rattle.desk_step.proofs.take_write.Met as take-write-thm
@@ -35,7 +31,7 @@ use Rattle.desk_step.proofs.take.Key as key
 use Rattle.desk_step.proofs.take.Statement.{statement}
 
 pub take-spec : {M : Type 1} → statement M
-unfolding code.routine servedIn servedCount
+unfolding code.routine
 take-spec 𝓤 H 𝓜 𝓖 𝓡 =
     let does = lent 𝓤 H 𝓜 𝓖 𝓡 code.env parts.desk-record in
     let knows = valued 𝓤 H 𝓜 𝓖 𝓡 code.env parts.desk-record in
@@ -50,24 +46,14 @@ take-spec 𝓤 H 𝓜 𝓖 𝓡 =
     (named-cell-thm.met 𝓤 H 𝓜 𝓖 𝓡) κ q b o γ in
     let served-answer-met = knows acts.served-answer served-answer.name served-answer.routine code.calls-desk-acts·served-answer
     (served-answer-thm.met 𝓤 H 𝓜 𝓖 𝓡) κ q b o γ in
-    let m = a .0 in let is-m = is-a .0 in let there = serve-place t m need in let same = serve-in t (row-long t is) m need in
-    let few = sound-rule t (served t m need .sound) .tray-is .cells-most in let write = eqb (m .kind) 2 in let lost : ℕ = lossIn t (m .clock) in
-    let u = servedIn t m in let n : ℕ = servedCount t m in let x = cellAt (u .row) (m .cell) in
-    tt ⨟ (tt, record { fits = lit< tt }) ⨟ _ ⨟ sends-write-met ⨟ (m, tt) ⨟ ((is-m, tt), tt) ⨟ refl ⨟ refl ⨟ λ _.
-    joined ((n < 2 ^ 32) ⨟ (λ _. (u, none ∷ some (vptr b o) ∷ some (val acts.message m) ∷ some (vint w32 n) ∷ []))
-    ⨟ (λ yes. ((tt, tt) ⨟ _ ⨟ take-write-met ⨟ (m, tt) ⨟ ((is-m, tt), (there .0, few)) ⨟ refl ⨟ refl ⨟ λ is-n. (
-      subst (λ (k : ℕ). k < 2 ^ 32) (sym (if-yes write lost 0 yes)) (is-n .1),
-      sym (if-yes write (takeIn t m) t yes),
-      (refl, (refl, (ap (λ (k : ℕ). some (vint w32 k)) (sym (if-yes write lost 0 yes)), tt))),
-      tt,
-    )))
-    ⨟ (λ no. (
-      subst (λ (k : ℕ). k < 2 ^ 32) (sym (if-no write lost 0 no)) (lit< tt),
-      sym (if-no write (takeIn t m) t no),
-      (refl, (refl, (ap (λ (k : ℕ). some (vint w32 k)) (sym (if-no write lost 0 no)), tt))),
-      tt,
-    ))
-    ⨟ (λ fits. ((tt, tt) ⨟ _ ⨟ named-cell-met ⨟ (m, tt) ⨟ ((is-m, tt), tt) ⨟ refl ⨟ refl ⨟ λ is-c.
+    let m = a .0 in let is-m = is-a .0 in let there = serve-place t m need in let long = row-long t is in let write = eqb (m .kind) 2 in
+    let few = sound-rule t (served t m need .sound) .tray-is .cells-most in
+    _ ⨟ sends-write-met ⨟ (m, tt) ⨟ ((is-m, tt), tt) ⨟ refl ⨟ refl ⨟ λ _.
+    apart ((λ yes. let same = take-serves t long m need (eqb-true (m .kind) 2 (is-true write yes)) in
+    ((tt, tt) ⨟ _ ⨟ take-write-met ⨟ (m, tt) ⨟ ((is-m, tt), (there .0, there .1, few)) ⨟ refl ⨟ refl ⨟ λ is-r.
+    _ ⨟ refl ⨟ (ap (val acts.answer) (same .0), subst (IsOf acts.answer) (same .0) is-r, same .1, tt)))
+    ⨟ (λ no. let same = read-serves t long m need (eqb-false (m .kind) 2 (is-false write no)) in
+    ((tt, tt) ⨟ _ ⨟ named-cell-met ⨟ (m, tt) ⨟ ((is-m, tt), tt) ⨟ refl ⨟ refl ⨟ λ is-c.
     _ ⨟ own-cell-met ⨟ (m .cell, tt) ⨟ ((is-c, tt), there .0) ⨟ refl ⨟ refl ⨟ λ is-x.
-    _ ⨟ served-answer-met ⨟ (n, (m, (x, tt))) ⨟ (((refl, fits), (is-m, (is-x, tt))), there .1) ⨟ refl ⨟ refl ⨟ λ is-r.
+    _ ⨟ served-answer-met ⨟ (0, (m, (cellAt (t .row) (m .cell), tt))) ⨟ (((refl, lit< tt), (is-m, (is-x, tt))), there .1) ⨟ tt ⨟ refl ⨟ refl ⨟ λ is-r.
     _ ⨟ refl ⨟ (ap (val acts.answer) (same .0), subst (IsOf acts.answer) (same .0) is-r, same .1, tt)))))

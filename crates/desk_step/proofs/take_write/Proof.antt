@@ -1,7 +1,8 @@
 -- `desk_step::take_write` meets its contract.
 -- Assumes nothing.
 use mathlib.Core.Path.{refl}
-use Rattle.desk.specs.InPlace.{lostTo, takeIn}
+use Rattle.desk.specs.Desk.{heldCell}
+use Rattle.desk.specs.InPlace.{lostTo, lossIn, takeIn}
 use Rattle.desk.specs.Parts.{tookSeat}
 use Rattle.desk_acts.proofs.Acts as acts
 use Rattle.desk_acts.proofs.named_cell.Met as named-cell-thm
@@ -10,6 +11,10 @@ use Rattle.desk_acts.proofs.sent_clock.Met as sent-clock-thm
 use Rattle.desk_acts.proofs.sent_clock.Symbol as sent-clock
 use Rattle.desk_acts.proofs.sent_word.Met as sent-word-thm
 use Rattle.desk_acts.proofs.sent_word.Symbol as sent-word
+use Rattle.desk_acts.proofs.served_answer.Met as served-answer-thm
+use Rattle.desk_acts.proofs.served_answer.Symbol as served-answer
+use Rattle.desk_acts.proofs.storing.Met as storing-thm
+use Rattle.desk_acts.proofs.storing.Symbol as storing
 use Rattle.desk_acts.proofs.took.Met as took-thm
 use Rattle.desk_acts.proofs.took.Symbol as took
 use Rattle.desk_parts.proofs.Parts as parts
@@ -44,13 +49,20 @@ take-write-spec 𝓤 H 𝓜 𝓖 𝓡 =
     (named-cell-thm.met 𝓤 H 𝓜 𝓖 𝓡) κ q b o γ in
     let sent-word-met = knows acts.sent-word sent-word.name sent-word.routine code.calls-desk-acts·sent-word
     (sent-word-thm.met 𝓤 H 𝓜 𝓖 𝓡) κ q b o γ in
+    let storing-met = knows acts.storing storing.name storing.routine code.calls-desk-acts·storing (storing-thm.met 𝓤 H 𝓜 𝓖 𝓡) κ q b o γ in
+    let served-answer-met = knows acts.served-answer served-answer.name served-answer.routine code.calls-desk-acts·served-answer
+    (served-answer-thm.met 𝓤 H 𝓜 𝓖 𝓡) κ q b o γ in
     let m = a .0 in let is-m = is-a .0 in
     (tt, tt) ⨟ _ ⨟ sent-clock-met ⨟ (m, tt) ⨟ ((is-m, tt), tt) ⨟ refl ⨟ refl ⨟ λ is-k.
-    _ ⨟ lose-met ⨟ (m .clock, tt) ⨟ ((is-k, tt), need .1) ⨟ refl ⨟ refl ⨟ λ is-n. (tt, tt)
+    _ ⨟ lose-met ⨟ (m .clock, tt) ⨟ ((is-k, tt), need .2) ⨟ refl ⨟ refl ⨟ λ is-n. (tt, tt)
     ⨟ _ ⨟ own-seat-met ⨟ tt ⨟ (tt, tt) ⨟ refl ⨟ refl ⨟ λ is-s.
     _ ⨟ sent-clock-met ⨟ (m, tt) ⨟ ((is-m, tt), tt) ⨟ refl ⨟ refl ⨟ λ is-l.
     _ ⨟ took-met ⨟ (t .seat, (m .clock, tt)) ⨟ ((is-s, (is-l, tt)), tt) ⨟ refl ⨟ refl ⨟ λ is-u. (tt, tt)
     ⨟ _ ⨟ named-cell-met ⨟ (m, tt) ⨟ ((is-m, tt), tt) ⨟ refl ⨟ refl ⨟ λ is-c.
     _ ⨟ sent-word-met ⨟ (m, tt) ⨟ ((is-m, tt), tt) ⨟ refl ⨟ refl ⨟ λ is-w.
     _ ⨟ store-met ⨟ (m .cell, (tookSeat (t .seat) (m .clock), (m .word, tt))) ⨟ ((is-c, (is-u, (is-w, tt))), need .0) ⨟ refl ⨟ refl ⨟ λ _.
-    (tt, record { fits = is-n .1 }) ⨟ _ ⨟ refl ⨟ (refl, is-n, refl, tt))
+    _ ⨟ sent-word-met ⨟ (m, tt) ⨟ ((is-m, tt), tt) ⨟ refl ⨟ refl ⨟ λ is-v.
+    _ ⨟ storing-met ⨟ (tookSeat (t .seat) (m .clock), (m .word, tt)) ⨟ ((is-u, (is-v, tt)), tt) ⨟ refl ⨟ refl ⨟ λ is-x.
+    _ ⨟ served-answer-met ⨟ (lossIn t (m .clock), (m, (heldCell (m .word) (tookSeat (t .seat) (m .clock) .clock), tt)))
+    ⨟ ((is-n, (is-m, (is-x, tt))), need .1) ⨟ refl ⨟ refl ⨟ λ is-r.
+    _ ⨟ refl ⨟ (refl, is-r, refl, tt))
