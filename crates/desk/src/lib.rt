@@ -18,6 +18,13 @@ impl Cell {
         word: 0,
         stamp: Clock::ZERO,
     };
+
+    // What a keeper has of a cell that nobody has written: held, and blank.
+    pub const BLANK: Cell = Cell {
+        held: true,
+        word: 0,
+        stamp: Clock::ZERO,
+    };
 }
 
 // What a desk waits for: kind 0 nothing, 1 read asked, 2 write asked (word, sent clock), 3 read answered, 4 write answered (word, stamp).
@@ -98,7 +105,7 @@ pub struct Record {
 }
 
 impl Record {
-    // What a refusal to start gives: all zero.
+    // What a refusal to start leaves: all zero.
     pub const NONE: Record = Record {
         tray: Tray::NONE,
         desk: 0,
@@ -168,8 +175,7 @@ pub struct Plan {
     pub keepers: [u32; 32],
 }
 
-// What starting gives: code 0 and the desk's fresh record, or a refusal and an all-zero one.
-#[repr(C)]
+// What starting comes to, as the definitions say it: code 0 and the desk's fresh record, or a refusal and an all-zero one.
 pub struct Started {
     pub code: u32,
     pub record: Record,

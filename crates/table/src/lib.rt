@@ -28,7 +28,6 @@ pub struct Outcome {
 }
 
 // What setting up gives: code 0 and the fresh table, or a refusal and an all-zero one.
-#[repr(C)]
 pub struct SetUp {
     pub code: u32,
     pub table: Table,

@@ -1,11 +1,12 @@
 -- The table and its parts for the walks (crate `walks`), and what each function of this crate does, as its callers cite it.
 -- Assumes nothing.
 use mathlib.Core.Path.{refl}
-use Rattle.desk.specs.Desk.{noCell, noPlace, pastCell, pastSeat}
+use Rattle.desk.specs.Desk.{noCell, noPlace, noSeat, pastCell, pastSeat}
+use Rattle.desk.specs.Start.{blankCell}
 use Rattle.desk_parts.proofs.Parts.{cell, spot, counts as both-counts, tray as whole-tray, seat, counts-of-tray, places-of-tray}
 use Rattle.table.proofs.Table as T
 use Rattle.table.proofs.Table.Laws as T′
-use Rattle.walks.proofs.Access.{getter, getter-at, setter-at, clearer-at}
+use Rattle.walks.proofs.Access.{getter, setter, getter-at, setter-at, clearer-at}
 use Rattle.walks.proofs.Lent.{LentFn}
 use Rattle.table.specs.declared.Table.{Table}
 use Rattle.table.specs.Rows.{Sized}
@@ -41,6 +42,9 @@ counts = getter counts-in
 abbrev pub tray : LentFn table
 tray = getter tray-in
 
+abbrev pub put-tray : LentFn table
+put-tray = setter tray-in
+
 abbrev pub place : LentFn table
 place = getter-at places-in
 
@@ -50,6 +54,9 @@ seat-of = getter-at seats-in
 abbrev pub put-seat : LentFn table
 put-seat = setter-at seats-in
 
+abbrev pub clear-seat : LentFn table
+clear-seat = clearer-at seats-in noSeat
+
 abbrev pub cell-at : LentFn table
 cell-at = getter-at cells-in
 
@@ -58,6 +65,9 @@ put-cell = setter-at cells-in
 
 abbrev pub clear-cell : LentFn table
 clear-cell = clearer-at cells-in noCell
+
+abbrev pub keep-cell : LentFn table
+keep-cell = clearer-at cells-in blankCell
 
 -- ---- its arrays have their lengths
 pub sized : (t : Table) → IsOf table t → Sized t

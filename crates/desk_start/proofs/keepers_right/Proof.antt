@@ -13,12 +13,12 @@ use Rattle.desk_start.proofs.keepers_right.Statement.{statement}
 use Rattle.desk_start.proofs.keepers_right.Tie as tie
 
 abbrev Inv-loop : tie.InvT-loop
-Inv-loop plan keepers cells right₀ c₀ right c = (c ≤ 32)
+Inv-loop plan cells right₀ c₀ right c = (c ≤ 32)
     × (every (mapAt (keeperRight (plan .desks) (plan .cells)) (plan .keepers))
     ≡ (right && every (drop c (mapAt (keeperRight (plan .desks) (plan .cells)) (plan .keepers)))))
 
 abbrev μ-loop : tie.MeasureT-loop
-μ-loop plan keepers cells right₀ c₀ right c = 32 - c
+μ-loop plan cells right₀ c₀ right c = 32 - c
 
 cast-cells : tie.Need-cast-cells Inv-loop μ-loop
 cast-cells c = search needs
@@ -29,8 +29,8 @@ loop-holds c = (search needs, refl)
 mul-right : tie.Need-mul-right Inv-loop μ-loop
 mul-right c = search needs
 
-array-read-right : tie.Need-array-read-right Inv-loop μ-loop
-array-read-right c = search needs
+element-copy-out-right : tie.Need-element-copy-out-right Inv-loop μ-loop
+element-copy-out-right c = search needs
 
 add-c : tie.Need-add-c Inv-loop μ-loop
 add-c c = search needs
@@ -40,7 +40,7 @@ loop-less c = search needs
 
 loop-again : tie.Need-loop-again Inv-loop μ-loop
 loop-again c =
-    let p = c .before .before .before .before .before .args .plan in
+    let p = c .before .before .before .args .t1 in
     let l = c .before .before .loop in
     let long : length (p .keepers) ≡ 32 = search needs in
     let turn = mapAt-turn (keeperRight (p .desks) (p .cells)) (p .keepers) 0 (l .c) (l .right) in
@@ -49,7 +49,7 @@ loop-again c =
 returns : tie.Need-returns Inv-loop μ-loop
 unfolding keepersRight
 returns c =
-    let p = c .before .before .before .before .args .plan in
+    let p = c .before .before .args .t1 in
     let l = c .before .loop in
     let long : length (p .keepers) ≡ 32 = search needs in
     sym (mapAt-end (keeperRight (p .desks) (p .cells)) (p .keepers) 0 (l .c) (l .right) (omega arith) (l .inv .1))
@@ -63,7 +63,7 @@ keepers-right-spec =
     cast-cells
     loop-holds
     mul-right
-    array-read-right
+    element-copy-out-right
     add-c
     loop-less
     loop-again

@@ -21,10 +21,10 @@ abbrev planned-at : Plan → ℕ → Place
 planned-at plan k = plannedPlace (plan .cells) k (getD (plan .keepers) k 0)
 
 abbrev Inv-loop : tie.InvT-loop
-Inv-loop plan keepers cells places₀ c₀ places c = (c ≤ 32) × (places ≡ upTo (planned-at plan) c (replicate 32 noPlace))
+Inv-loop plan cells places₀ c₀ places c = (c ≤ 32) × (places ≡ upTo (planned-at plan) c (replicate 32 noPlace))
 
 abbrev μ-loop : tie.MeasureT-loop
-μ-loop plan keepers cells places₀ c₀ places c = 32 - c
+μ-loop plan cells places₀ c₀ places c = 32 - c
 
 cast-cells : tie.Need-cast-cells Inv-loop μ-loop
 cast-cells c = search needs
@@ -36,16 +36,16 @@ loop-holds c = (search needs, refl)
 mul-planned-place : tie.Need-mul-planned-place Inv-loop μ-loop
 mul-planned-place c = search needs
 
-array-read-planned-place : tie.Need-array-read-planned-place Inv-loop μ-loop
-array-read-planned-place c = search needs
+element-copy-out-planned-place : tie.Need-element-copy-out-planned-place Inv-loop μ-loop
+element-copy-out-planned-place c = search needs
 
 planned-place-requires : tie.Need-planned-place-requires Inv-loop μ-loop
 planned-place-requires c κs =
-    let at-start = c .before .before .before .before in
-    let p = at-start .args .plan in
+    let at-start = c .before .before .before in
+    let p = at-start .args .t1 in
     let long : length (p .keepers) ≡ 32 = search needs in
     let s = settled p (at-start .pre) in
-    λ used. omega (arith, keeper-below s (c .before .loop .c) used (omega arith), s .desks-most)
+    λ used. omega (arith, keeper-below s (c .before .before .loop .c) used (omega arith), s .desks-most)
 
 array-set-from-places : tie.Need-array-set-from-places Inv-loop μ-loop
 array-set-from-places c = search needs
@@ -58,27 +58,27 @@ loop-less c = search needs
 
 loop-again : tie.Need-loop-again Inv-loop μ-loop
 loop-again c =
-    let l = c .before .before .loop in (
+    let l = c .before .before .before .loop in (
       omega arith,
       ap₂ (λ (r : List Place) (x : Place). set r (l .c) x) (l .inv .1) (c .planned-place .ensures)
-          ∙ upTo-step (planned-at (c .before .before .before .before .before .args .plan)) (l .c) (replicate 32 noPlace),
+          ∙ upTo-step (planned-at (c .before .before .before .before .args .t1)) (l .c) (replicate 32 noPlace),
     )
-
-cast-t15 : tie.Need-cast-t15 Inv-loop μ-loop
-cast-t15 c =
-    let at-start = c .before .before .before .before .before in
-    omega (arith, settled (at-start .args .plan) (at-start .pre) .desks-most)
 
 cast-t16 : tie.Need-cast-t16 Inv-loop μ-loop
 cast-t16 c =
-    let at-start = c .before .before .before .before .before .before in
-    omega (arith, settled (at-start .args .plan) (at-start .pre) .cells-most)
+    let at-start = c .before .before in
+    omega (arith, settled (at-start .args .t1) (at-start .pre) .desks-most)
+
+cast-t18 : tie.Need-cast-t18 Inv-loop μ-loop
+cast-t18 c =
+    let at-start = c .before .before in
+    omega (arith, settled (at-start .args .t1) (at-start .pre) .cells-most)
 
 returns : tie.Need-returns Inv-loop μ-loop
 unfolding freshTray
 returns c =
-    let p = c .before .before .before .before .before .before .args .plan in
-    let l = c .before .before .before .loop in
+    let p = c .before .before .args .t1 in
+    let l = c .before .loop in
     let long : length (p .keepers) ≡ 32 = search needs in
     let end : l .c ≡ 32 = omega arith in
     let place = plannedPlace (p .cells) in
@@ -97,12 +97,12 @@ tray-spec =
     cast-cells
     loop-holds
     mul-planned-place
-    array-read-planned-place
+    element-copy-out-planned-place
     planned-place-requires
     array-set-from-places
     add-c
     loop-less
     loop-again
-    cast-t15
     cast-t16
+    cast-t18
     returns)
