@@ -88,7 +88,7 @@ pub struct Tray {
 }
 
 impl Tray {
-    // What a refusal to set up gives: all zero.
+    // What a refusal to start or to set up leaves: all zero.
     pub const NONE: Tray = Tray {
         counts: Counts { desks: 0, cells: 0 },
         places: [Place::NONE; 32],
@@ -102,16 +102,6 @@ pub struct Record {
     pub desk: u8,
     pub seat: Seat,
     pub row: [Cell; 32],
-}
-
-impl Record {
-    // What a refusal to start leaves: all zero.
-    pub const NONE: Record = Record {
-        tray: Tray::NONE,
-        desk: 0,
-        seat: Seat::NONE,
-        row: [Cell::NONE; 32],
-    };
 }
 
 // What somebody wants of a desk: kind 1 read, 2 write, 3 take, 4 bring, 5 drop. Any number may stand anywhere.

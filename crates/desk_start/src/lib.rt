@@ -1,10 +1,10 @@
 // Starting: a tray as it is set up, and a desk's fresh record on it. The table sets itself up from the same parts.
 ghost use mathlib.Core.Path.{_≡_};
-ghost use Prim.Native.Nat.{_<_, _≤_};
+ghost use Prim.Native.Nat.{_≤_};
 ghost use lib.ListN.{replicate};
 ghost use Rattle.desk.specs.Desk.{noCell};
 ghost use Rattle.desk.specs.Rules.{withRow};
-ghost use Rattle.desk.specs.Start.{plannedPlace, freshTray, noTray, noRecord, keepersRight, setUpRefusal, startRefusal, startRule};
+ghost use Rattle.desk.specs.Start.{freshTray, noTray, noRecord, keepersRight, setUpRefusal, startRefusal, startRule};
 ghost use Rattle.desk.specs.StartInPlace.{keptIn};
 use desk::Counts;
 use desk::Place;
@@ -101,8 +101,8 @@ fn keepers_right(plan: Plan) -> bool
 {
     let cells = plan.cells as usize;
     let mut right = true;
-    for c in 0..32 {
-        right = right & (!(c < cells) | (plan.keepers[c] < plan.desks));
+    for c in 0..cells {
+        right = right & (plan.keepers[c] < plan.desks);
     }
     right
 }
@@ -123,26 +123,16 @@ pub fn refusal(plan: Plan) -> u32
     0
 }
 
-fn planned_place(cells: usize, c: usize, keeper: u32) -> Place
-    requires { ⌜ (c < cells → keeper < 8) ⌝ }
-    ensures { λ r. ⌜ r ≡ plannedPlace cells c keeper ⌝ }
-{
-    if c < cells {
-        return Place {
-            keeper: keeper as u8,
-        };
-    }
-    Place::NONE
-}
-
 pub fn tray(plan: Plan) -> Tray
     requires { ⌜ setUpRefusal plan ≡ 0 ⌝ }
     ensures { λ r. ⌜ r ≡ freshTray plan ⌝ }
 {
     let cells = plan.cells as usize;
     let mut places = [Place::NONE; 32];
-    for c in 0..32 {
-        places[c] = planned_place(cells, c, plan.keepers[c]);
+    for c in 0..cells {
+        places[c] = Place {
+            keeper: plan.keepers[c] as u8,
+        };
     }
     Tray {
         counts: Counts {

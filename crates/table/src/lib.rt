@@ -13,7 +13,7 @@ pub struct Table {
 }
 
 impl Table {
-    // What a refusal to set up gives: all zero.
+    // What a refusal to set up leaves: all zero.
     pub const NONE: Table = Table {
         cells: [Cell::NONE; 256],
         tray: Tray::NONE,

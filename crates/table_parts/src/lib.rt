@@ -92,3 +92,11 @@ pub fn keep_cell(t: &mut Table, i: usize)
 {
     t.cells[i] = Cell::BLANK;
 }
+
+// Entry i as entry 0 is. The bytes between a cell's fields are copied too, so that no store goes round them: all cells are cleared faster so.
+pub fn copy_first(t: &mut Table, i: usize)
+    requires { ⌜ i < 256 ⌝ }
+    ensures { λ r. ⌜ now (t .exit) ≡ withCell (now (t .entry)) i (cellAt (now (t .entry) .cells) 0) ⌝ }
+{
+    t.cells[i] = t.cells[0];
+}

@@ -15,6 +15,7 @@ use table::SetUp;
 use table::Table;
 use table_parts::clear_cell;
 use table_parts::clear_seat;
+use table_parts::copy_first;
 use table_parts::counts;
 use table_parts::keep_cell;
 use table_parts::place;
@@ -55,9 +56,10 @@ fn clear(t: &mut Table)
 fn clear_cells(t: &mut Table)
     ensures { λ r. ⌜ now (t .exit) ≡ withCells (now (t .entry)) (replicate 256 noCell) ⌝ }
 {
-    let mut i: usize = 0;
+    clear_cell(t, 0);
+    let mut i: usize = 1;
     while i < 256 {
-        clear_cell(t, i);
+        copy_first(t, i);
         i = i + 1;
     }
 }
