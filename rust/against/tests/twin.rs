@@ -396,7 +396,7 @@ fn set_up_and_start() {
         let what = (plan, desk);
         mark(&mut table.cells, &mut table.seats);
         mark(&mut record.row, std::slice::from_mut(&mut record.seat));
-        (table.tray.counts.desks, record.tray.counts.cells, record.desk) = (7, 9, 5);
+        (table.tray.counts.desks, record.desk) = (7, 5);
         let ours = sys::set_up(&mut table, plan.same());
         let (number, twins) = match Table::new(plan) {
             Ok(table) => (0, table),
