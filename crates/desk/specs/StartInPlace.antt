@@ -1,18 +1,17 @@
 -- Starting as the code does it where a record lies: all of it is cleared, and then the desk holds the cells that it keeps. It is the rule.
 -- Assumes nothing.
 use mathlib.Core.Path.{_≡_, refl, sym, ap, _∙_}
-use mathlib.Core.Bool.{Bool, true, false, _&&_}
+use mathlib.Core.Bool.{Bool, true, false}
 use Prim.Native.Nat.{ℕ, _+_, _≤_, _<_}
 use native.Mathlib.Omega.{arith}
 use borrow.Author.Tests.{lt-ltb}
 use lib.Dec.{ltb}
-use lib.ListN.{length, getD, replicate, length-replicate, getD-replicate}
+use lib.ListN.{length, replicate, length-replicate, getD-replicate}
 use Rattle.theory_lists.specs.Marked.{marked, marked-yes, marked-no, marked-all, ByNone}
 use Rattle.theory_lists.specs.Test.{both-right, fails}
 use Rattle.theory_refusals.specs.Refusals.{unless-refused, unless-done}
 use Rattle.desk.specs.declared.Plan.{Plan}
 use Rattle.desk.specs.declared.Record.{Record}
-use Rattle.desk.specs.declared.Started.{Started}
 use Rattle.desk.specs.declared.Tray.{Tray}
 use Rattle.desk.specs.Desk.{noCell, noSeat, pastCell, cellAt, placeAt, keptBy, keeps}
 use Rattle.desk.specs.Rules.{withRow, holds}

@@ -3,22 +3,21 @@
 use mathlib.Core.Path.{_≡_, refl, sym, ap, _∙_}
 use mathlib.Core.Bool.{Bool, true}
 use mathlib.Core.List.{List}
-use Prim.Native.Nat.{ℕ, _+_, _*_, _/_, _%_, _≤_, _<_}
+use Prim.Native.Nat.{ℕ, _+_, _*_, _/_, _%_, _<_}
 use native.Mathlib.Omega.{arith}
 use lib.ListN.{length, replicate, length-replicate, getD-replicate}
 use Rattle.desk.specs.declared.Cell.{Cell}
 use Rattle.desk.specs.declared.Plan.{Plan}
 use Rattle.desk.specs.declared.Seat.{Seat}
 use Rattle.desk.specs.declared.Tray.{Tray}
-use Rattle.desk.specs.Desk.{noCell, noSeat, pastCell, cellAt, keeperOf, keeps}
+use Rattle.desk.specs.Desk.{noCell, noSeat, pastCell, cellAt, keeperOf}
 use Rattle.desk.specs.SoundLaws.{keeps-in, is-keeper, keeper-keeps, keeper-desk}
-use Rattle.desk.specs.Start.{plannedPlace, freshTray, setUpRefusal, blankCell, keptAlone}
+use Rattle.desk.specs.Start.{plannedPlace, freshTray, setUpRefusal, blankCell}
 use Rattle.desk.specs.StartInPlace.{not-alone}
 use Rattle.desk.specs.StartLaws.{settled, fresh-tray}
 use Rattle.theory_lists.specs.Each.{length-mapAt, getD-mapAt}
 use Rattle.theory_lists.specs.Marked.{marked, marked-yes, marked-all, ByNone}
 use Rattle.theory_refusals.specs.Refusals.{unless-refused, unless-done}
-use Rattle.table.specs.declared.SetUp.{SetUp}
 use Rattle.table.specs.declared.Table.{Table}
 use Rattle.table.specs.Changes.{withCell}
 use Rattle.table.specs.SetUp.{freshCell, freshTable, noTable, notSetUp, setUpRule}

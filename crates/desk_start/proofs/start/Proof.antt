@@ -1,13 +1,13 @@
 -- `desk_start::start` meets its contract: the record is cleared, and with no refusal it is made fresh.
 -- Assumes nothing.
-use mathlib.Core.Path.{_≡_, refl, sym, ap, subst}
+use mathlib.Core.Path.{refl, sym, ap, subst}
 use Prim.Native.Nat.{ℕ, _<_, _^_}
 use native.Mathlib.Omega.{arith}
 use lib.Dec.{lit<}
 use mir.Syntax.{w32}
 use mir.Val.{vint}
 use Rattle.desk.specs.declared.Started.{Started}
-use Rattle.desk.specs.Start.{freshTray, startRefusal, startRule}
+use Rattle.desk.specs.Start.{freshTray, startRefusal}
 use Rattle.desk.specs.StartInPlace.{few-cells, start-refused, start-done}
 use Rattle.desk.specs.StartLaws.{settled, start-passed}
 use Rattle.desk_parts.proofs.Parts as parts

@@ -1,20 +1,19 @@
 -- `table_set_up::clear_cells` meets its contract. A turn of the loop copies the first entry, which is cleared; it ends with the first i entries cleared.
 -- Assumes nothing.
-use mathlib.Core.List.{List, [], _∷_}
+use mathlib.Core.List.{[], _∷_}
 use mathlib.Core.Option.{none, some}
-use mathlib.Core.Path.{_≡_, refl, sym, ap, _∙_}
+use mathlib.Core.Path.{_≡_, refl, ap, _∙_}
 use mathlib.Core.WellFounded.{InvImage·wf}
 use Prim.Native.Nat.{ℕ, _+_, _-_, _<_, _≤_}
 use native.Mathlib.Omega.{arith}
 use lib.Dec.{ltb→lt, nltb→le, lit<}
-use lib.ListN.{length, set, replicate}
+use lib.ListN.{length, set}
 use lib.WfN.{Nat·lt-wfRel}
 use mir.Syntax.{w64}
 use mir.Val.{vint, vptr}
 use Rattle.desk.specs.declared.Cell.{Cell}
 use Rattle.desk.specs.Desk.{noCell, pastCell}
 use Rattle.table.specs.declared.Table.{Table}
-use Rattle.table.specs.Rows.{Sized}
 use Rattle.table.specs.SetUpInPlace.{withCells}
 use Rattle.table_parts.proofs.Parts as parts
 use Rattle.table_parts.proofs.clear_cell.Met as clear-cell-thm
