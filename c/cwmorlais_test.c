@@ -25,8 +25,6 @@ AT(event, kind, 0) AT(event, desk, 4) AT(event, cell, 8) AT(event, word, 12) SIZ
 AT(reply, code, 0) AT(reply, value, 4) AT(reply, count, 8) SIZE(reply, 12)
 AT(message, kind, 0) AT(message, desks, 1) AT(message, desk, 2) AT(message, cell, 3) AT(message, word, 4) AT(message, clock, 8) SIZE(message, 40)
 AT(answer, reply, 0) AT(answer, message, 12) SIZE(answer, 52)
-AT(started, code, 0) AT(started, record, 4) SIZE(started, 1396)
-AT(set_up, code, 0) AT(set_up, table, 4) SIZE(set_up, 10888)
 AT(reading, code, 0) AT(reading, message, 4) AT(reading, used, 48) SIZE(reading, 56)
 AT(written, code, 0) AT(written, used, 8) SIZE(written, 16)
 
@@ -129,9 +127,9 @@ static const uint32_t whole_case[13][7] = {
 };
 
 static cwmorlais_record started(cwmorlais_plan plan, uint32_t desk) {
-    cwmorlais_started s = cwmorlais_desk_start(plan, desk);
-    EXPECT(s.code == 0);
-    return s.record;
+    cwmorlais_record v = {0};
+    EXPECT(cwmorlais_desk_start(&v, plan, desk) == 0);
+    return v;
 }
 
 static cwmorlais_message received(const uint8_t *bytes) {
@@ -171,16 +169,16 @@ static void hold_equal(const cwmorlais_table *t, const cwmorlais_record *desk, f
 
 static void play_whole_case(void) {
     cwmorlais_record desk[3] = {started(whole_plan, 0), started(whole_plan, 1), started(whole_plan, 2)};
-    cwmorlais_set_up s = cwmorlais_table_set_up(whole_plan);
+    cwmorlais_table t = {0};
     frame under_way[3];
-    EXPECT(s.code == 0);
-    hold_equal(&s.table, desk, under_way);
+    EXPECT(cwmorlais_table_set_up(&t, whole_plan) == 0);
+    hold_equal(&t, desk, under_way);
     for (int i = 0; i < 13; i++) {
         const uint32_t *line = whole_case[i];
         cwmorlais_event e = {.kind = line[0], .desk = line[1], .cell = line[2], .word = line[3]};
         EXPECT(is_reply(by_desks(desk, under_way, e).reply, line[4], line[5], line[6]));
-        EXPECT(is_reply(cwmorlais_table_event(&s.table, e), line[4], line[5], line[6]));
-        hold_equal(&s.table, desk, under_way);
+        EXPECT(is_reply(cwmorlais_table_event(&t, e), line[4], line[5], line[6]));
+        hold_equal(&t, desk, under_way);
     }
     EXPECT(desk[0].seat.clock.n[2] == 2 && desk[1].seat.clock.n[2] == 1 && desk[2].seat.clock.n[2] == 2);
     EXPECT(desk[0].row[0].held && desk[0].row[0].word == 27 && desk[0].row[1].word == 500);
@@ -188,12 +186,34 @@ static void play_whole_case(void) {
 
 /* ---- Refusals */
 
+/* Over a record and a table in which no field is zero: a refusal leaves them all zero, and a start or set-up makes what it makes over zeros. */
+static cwmorlais_record full_record(void) {
+    cwmorlais_record v;
+    for (size_t i = 0; i < sizeof v; i++) ((uint8_t *)&v)[i] = 1;
+    return v;
+}
+
+static cwmorlais_table full_table(void) {
+    cwmorlais_table t;
+    for (size_t i = 0; i < sizeof t; i++) ((uint8_t *)&t)[i] = 1;
+    return t;
+}
+
 static void refuse_start(uint32_t code, cwmorlais_plan plan, uint32_t desk) {
-    cwmorlais_started s = cwmorlais_desk_start(plan, desk);
-    EXPECT(s.code == code && same_record(&s.record, &no_record));
+    cwmorlais_record v = full_record();
+    EXPECT(cwmorlais_desk_start(&v, plan, desk) == code && same_record(&v, &no_record));
+    EXPECT(is_reply(cwmorlais_desk_event(&v, (cwmorlais_event){.kind = READ}).reply, 9, 0, 0));
     if (code == 10) return; /* set-up has no desk's number */
-    cwmorlais_set_up u = cwmorlais_table_set_up(plan);
-    EXPECT(u.code == code && same_table(&u.table, &no_table));
+    cwmorlais_table t = full_table();
+    EXPECT(cwmorlais_table_set_up(&t, plan) == code && same_table(&t, &no_table));
+    EXPECT(is_reply(cwmorlais_table_event(&t, (cwmorlais_event){.kind = READ}), 9, 0, 0));
+}
+
+static void start_over(void) {
+    cwmorlais_record v = full_record(), w = started(whole_plan, 1);
+    EXPECT(cwmorlais_desk_start(&v, whole_plan, 1) == 0 && same_record(&v, &w));
+    cwmorlais_table t = full_table(), u = {0};
+    EXPECT(cwmorlais_table_set_up(&t, whole_plan) == 0 && cwmorlais_table_set_up(&u, whole_plan) == 0 && same_table(&t, &u));
 }
 
 static void refuse_starts(void) {
@@ -266,13 +286,14 @@ static void refuse_frames(void) {
 }
 
 static void refuse_at_a_table(void) {
-    cwmorlais_set_up s = cwmorlais_table_set_up(whole_plan);
-    cwmorlais_table was = s.table;
-    EXPECT(is_reply(cwmorlais_table_event(&s.table, (cwmorlais_event){.kind = TAKE}), 13, 0, 0) && same_table(&was, &s.table));
-    EXPECT(is_reply(cwmorlais_table_event(&s.table, (cwmorlais_event){.kind = READ, .desk = 3}), 10, 0, 0) && same_table(&was, &s.table));
-    s.table.seats[7].served = true; /* no such desk: not sound */
-    was = s.table;
-    EXPECT(is_reply(cwmorlais_table_event(&s.table, (cwmorlais_event){.kind = READ}), 9, 0, 0) && same_table(&was, &s.table));
+    cwmorlais_table t = {0};
+    EXPECT(cwmorlais_table_set_up(&t, whole_plan) == 0);
+    cwmorlais_table was = t;
+    EXPECT(is_reply(cwmorlais_table_event(&t, (cwmorlais_event){.kind = TAKE}), 13, 0, 0) && same_table(&was, &t));
+    EXPECT(is_reply(cwmorlais_table_event(&t, (cwmorlais_event){.kind = READ, .desk = 3}), 10, 0, 0) && same_table(&was, &t));
+    t.seats[7].served = true; /* no such desk: not sound */
+    was = t;
+    EXPECT(is_reply(cwmorlais_table_event(&t, (cwmorlais_event){.kind = READ}), 9, 0, 0) && same_table(&was, &t));
 }
 
 /* ---- The stack: it is painted, and what is no longer paint after a call was used */
@@ -298,22 +319,20 @@ static ptrdiff_t most_used(ptrdiff_t before) {
 
 /* The calls of the whole case, as `play_whole_case` makes them. */
 static void measure_stack(void) {
-    static cwmorlais_started fresh;
-    static cwmorlais_set_up s;
+    static cwmorlais_table t;
     static cwmorlais_record desk[3];
     static cwmorlais_answer a;
     static cwmorlais_reading r;
     static frame under_way[3];
     ptrdiff_t start = 0, event = 0, serve = 0, bring = 0, read = 0, write = 0, set_up = 0, table_event = 0;
     for (uint32_t d = 0; d < 3; d++) {
-        paint(), fresh = cwmorlais_desk_start(whole_plan, d), start = most_used(start);
-        desk[d] = fresh.record;
+        paint(), cwmorlais_desk_start(&desk[d], whole_plan, d), start = most_used(start);
     }
-    paint(), s = cwmorlais_table_set_up(whole_plan), set_up = most_used(set_up);
+    paint(), cwmorlais_table_set_up(&t, whole_plan), set_up = most_used(set_up);
     for (int i = 0; i < 13; i++) {
         const uint32_t *line = whole_case[i];
         cwmorlais_event e = {.kind = line[0], .desk = line[1], .cell = line[2], .word = line[3]};
-        paint(), cwmorlais_table_event(&s.table, e), table_event = most_used(table_event);
+        paint(), cwmorlais_table_event(&t, e), table_event = most_used(table_event);
         if (e.kind == READ || e.kind == WRITE) {
             paint(), a = cwmorlais_desk_event(&desk[e.desk], e), event = most_used(event);
         } else {
@@ -330,7 +349,7 @@ static void measure_stack(void) {
     }
     printf("stack: start %td, event %td, serve %td, bring %td, read %td, write %td, set up %td, table event %td\n", start, event, serve, bring,
         read, write, set_up, table_event);
-    EXPECT(start <= CWMORLAIS_START_STACK_BYTES && set_up <= CWMORLAIS_SET_UP_STACK_BYTES);
+    EXPECT(start <= CWMORLAIS_STACK_BYTES && set_up <= CWMORLAIS_STACK_BYTES);
     EXPECT(event <= CWMORLAIS_STACK_BYTES && serve <= CWMORLAIS_STACK_BYTES && bring <= CWMORLAIS_STACK_BYTES);
     EXPECT(read <= CWMORLAIS_STACK_BYTES && write <= CWMORLAIS_STACK_BYTES && table_event <= CWMORLAIS_STACK_BYTES);
 }
@@ -338,6 +357,7 @@ static void measure_stack(void) {
 int main(void) {
     play_whole_case();
     refuse_starts();
+    start_over();
     refuse_at_a_desk();
     refuse_frames();
     refuse_at_a_table();

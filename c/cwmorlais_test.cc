@@ -1,14 +1,14 @@
 // The header from C++: each of its functions is called, so each must link under its C name. c/cwmorlais_test.c looks at what they give.
 #include "cwmorlais.h"
 
-static cwmorlais_record started(const cwmorlais_plan &plan, uint32_t desk) { return cwmorlais_desk_start(plan, desk).record; }
-static cwmorlais_table set_up(const cwmorlais_plan &plan) { return cwmorlais_table_set_up(plan).table; }
-
 int main() {
     const cwmorlais_plan plan = {3, 2, {1, 0}};
     const cwmorlais_event read = {1, 0, 0, 0};
-    cwmorlais_record asker = started(plan, 0), keeper = started(plan, 1);
-    cwmorlais_table table = set_up(plan);
+    cwmorlais_record asker = {}, keeper = {};
+    cwmorlais_table table = {};
+    if (cwmorlais_desk_start(&asker, plan, 0) || cwmorlais_desk_start(&keeper, plan, 1) || cwmorlais_table_set_up(&table, plan)) {
+        return 1;
+    }
     uint8_t frame[CWMORLAIS_FRAME_BYTES];
 
     const cwmorlais_answer asked = cwmorlais_desk_event(&asker, read);

@@ -5,15 +5,16 @@
  * table instead. Every function is proved to do what docs/PROMISES.md says, on every input. What a caller owes is what C cannot say:
  *   - what a pointer names is the caller's own (aligned as its type says, an array as long as said), and nobody else uses it until the
  *     function returns; what is const is only read;
- *   - a bool is 0 or 1, also in a record or a table that was read from a file.
+ *   - a bool is 0 or 1, also in a record or a table that was read from a file, and where one is yet to be made: a record that is lent to be started,
+ *     and a table to be set up, is one already. Any will do; one of zeros (= {0}) does.
  * Nothing is kept and nothing is freed. Bytes between fields have no meaning and may change in a call: compare field by field. All 32 keepers of
  * a plan are read, however few cells it has.
  *
  * A later version appends fields to a struct, small ones where its padding is: each field keeps its place in its struct, but structs may
  * grow, so compile with the header that came with the library.
  *
- * A code of 8 and more is a refusal: the rest of the answer is zero, and what was lent is as it was. Each function lists its refusals in the
- * order in which it looks:
+ * A code of 8 and more is a refusal: the rest of the answer is zero, and what was lent is as it was; but a refused start or set-up leaves it all
+ * zero, which is not sound, so that any event on it is refused with 9. Each function lists its refusals in the order in which it looks:
  *    8 the event's kind                     14 the desk keeps the cell            31 the version
  *    9 the record or table is not sound     15 the message does not fit           32 the kind
  *   10 the desk's number                    16 no clock number is left            33 the desk count is not 2 to 8
@@ -33,10 +34,8 @@ extern "C" {
 #endif
 
 /* Stack that is enough for a call, in bytes, beside what it returns and is handed by value. c/test measures what the calls of 01's whole case touch:
- * a table's event 248, a desk's 440 to 552, a frame at most 128. Starting and setting up make what they return first: 3,248 and 11,184. */
+ * a table's event 248, a desk's 440 to 552, a start and a set-up 304, a frame at most 128. */
 #define CWMORLAIS_STACK_BYTES 1024
-#define CWMORLAIS_START_STACK_BYTES 4096
-#define CWMORLAIS_SET_UP_STACK_BYTES 12288
 
 /* The longest frame: 2 bytes of length, 5 of head, a word and 8 clock numbers. */
 #define CWMORLAIS_FRAME_BYTES 43
@@ -139,18 +138,6 @@ typedef struct {
     cwmorlais_message message;
 } cwmorlais_answer;
 
-/* Code 0 and the record, or a refusal and an all-zero one. */
-typedef struct {
-    uint32_t code;
-    cwmorlais_record record;
-} cwmorlais_started;
-
-/* Code 0 and the table, or a refusal and an all-zero one. */
-typedef struct {
-    uint32_t code;
-    cwmorlais_table table;
-} cwmorlais_set_up;
-
 /* Code 0, the message and how many bytes its frame has; or a refusal, an all-zero message and 0. */
 typedef struct {
     uint32_t code;
@@ -166,8 +153,8 @@ typedef struct {
 
 /* ---- One desk, over its record */
 
-/* A desk's fresh record. Refuses 20, 21, 22, 10. */
-cwmorlais_started cwmorlais_desk_start(cwmorlais_plan plan, uint32_t desk);
+/* A desk's fresh record, in place of the one that v has. Code 0, or a refusal: 20, 21, 22, 10. */
+uint32_t cwmorlais_desk_start(cwmorlais_record *v, cwmorlais_plan plan, uint32_t desk);
 
 /* The desk's user wants something: kind 1, 2 or 5, for the desk whose record is lent, whatever desk e names. With code 1 the message is the
  * request: send it to the cell's keeper. Refuses 9, 8, 11, 12, 14, 16. */
@@ -189,8 +176,8 @@ cwmorlais_written cwmorlais_frame_write(const cwmorlais_message *m, uint8_t *out
 
 /* ---- All desks, over a table */
 
-/* A fresh table. Refuses 20, 21, 22. */
-cwmorlais_set_up cwmorlais_table_set_up(cwmorlais_plan plan);
+/* A fresh table, in place of the one that t has. Code 0, or a refusal: 20, 21, 22. */
+uint32_t cwmorlais_table_set_up(cwmorlais_table *t, cwmorlais_plan plan);
 
 /* One event. Take: the keeper receives the request of e.desk. Bring: e.desk receives its answer. Refuses 9, 8, 10, 11, 12, 13, 14, 16. */
 cwmorlais_reply cwmorlais_table_event(cwmorlais_table *t, cwmorlais_event e);

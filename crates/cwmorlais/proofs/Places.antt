@@ -17,11 +17,9 @@ use Rattle.desk.proofs.Record.Laws as Record
 use Rattle.desk.proofs.Reply.Laws as Reply
 use Rattle.desk.proofs.Seat.Laws as Seat
 use Rattle.desk.proofs.Slot.Laws as Slot
-use Rattle.desk.proofs.Started.Laws as Started
 use Rattle.desk.proofs.Tray.Laws as Tray
 use Rattle.frame.proofs.Reading.Laws as Reading
 use Rattle.frame.proofs.Written.Laws as Written
-use Rattle.table.proofs.SetUp.Laws as SetUp
 use Rattle.table.proofs.Table.Laws as Table
 use Rattle.desk.proofs.Answer.Laws as Answer
 
@@ -76,9 +74,6 @@ message-places = refl
 answer-places : places 2 Answer.mir ≡ 0 ∷ 12 ∷ 52 ∷ []
 answer-places = refl
 
-started-places : places 2 Started.mir ≡ 0 ∷ 4 ∷ 1396 ∷ []
-started-places = refl
-
 reading-places : places 3 Reading.mir ≡ 0 ∷ 4 ∷ 48 ∷ 56 ∷ []
 reading-places = refl
 
@@ -87,6 +82,3 @@ written-places = refl
 
 table-places : places 3 Table.mir ≡ 0 ∷ 10240 ∷ 10276 ∷ 10884 ∷ []
 table-places = refl
-
-set-up-places : places 2 SetUp.mir ≡ 0 ∷ 4 ∷ 10888 ∷ []
-set-up-places = refl

@@ -1,4 +1,4 @@
-// The library for Rust and C. A lent record or table is stepped where it lies.
+// The library for Rust and C. A lent record or table is made and stepped where it lies.
 ghost use mathlib.Core.Path.{_≡_};
 ghost use Rattle.desk.specs.Rules.{answerOf, eventRule, serveRule, bringRule};
 ghost use Rattle.desk.specs.Start.{startRule};
@@ -11,18 +11,16 @@ use desk::Message;
 use desk::Plan;
 use desk::Record;
 use desk::Reply;
-use desk::Started;
 use frame::Reading;
 use frame::Written;
-use table::SetUp;
 use table::Table;
 
-// A desk's fresh record.
+// A desk's fresh record, in place of the one that is lent; a refusal leaves it all zero.
 #[no_mangle]
-pub extern "C" fn cwmorlais_desk_start(plan: Plan, desk: u32) -> Started
-    ensures { λ r. ⌜ r ≡ startRule plan desk ⌝ }
+pub extern "C" fn cwmorlais_desk_start(v: &mut Record, plan: Plan, desk: u32) -> u32
+    ensures { λ r. ⌜ (r ≡ startRule plan desk .code) × (now (v .exit) ≡ startRule plan desk .«record») ⌝ }
 {
-    desk_start::start(plan, desk)
+    desk_start::start(v, plan, desk)
 }
 
 // The desk's user wants something. With code 1 the message is the request, for the cell's keeper.
@@ -65,12 +63,12 @@ pub extern "C" fn cwmorlais_frame_write(m: &Message, out: &mut [u8]) -> Written
     frame_write::write(out, m.kind, m.desks, m.desk, m.cell, m.word, m.clock)
 }
 
-// A fresh table.
+// A fresh table, in place of the one that is lent; a refusal leaves it all zero.
 #[no_mangle]
-pub extern "C" fn cwmorlais_table_set_up(plan: Plan) -> SetUp
-    ensures { λ r. ⌜ r ≡ setUpRule plan ⌝ }
+pub extern "C" fn cwmorlais_table_set_up(t: &mut Table, plan: Plan) -> u32
+    ensures { λ r. ⌜ (r ≡ setUpRule plan .code) × (now (t .exit) ≡ setUpRule plan .table) ⌝ }
 {
-    table_set_up::set_up(plan)
+    table_set_up::set_up(t, plan)
 }
 
 // One event on the lent table.

@@ -48,8 +48,11 @@ setUpRefusal p = firstOf (setUpLines p)
 
 -- ---- a desk's record
 -- "each cell held by its keeper alone, with word 0 and zero stamp"
+abbrev pub blankCell : Cell
+blankCell = heldCell noWord zeroClock
+
 abbrev pub heldIf : Bool → Cell
-heldIf kept = cond kept (heldCell noWord zeroClock) noCell
+heldIf kept = cond kept blankCell noCell
 
 abbrev pub keptAlone : Tray → ℕ → ℕ → Cell
 keptAlone t desk c = heldIf (keeps t desk c)

@@ -18,6 +18,13 @@ impl Cell {
         word: 0,
         stamp: Clock::ZERO,
     };
+
+    // What a keeper has of a cell that nobody has written: held, and blank.
+    pub const BLANK: Cell = Cell {
+        held: true,
+        word: 0,
+        stamp: Clock::ZERO,
+    };
 }
 
 // What a desk waits for: kind 0 nothing, 1 read asked, 2 write asked (word, sent clock), 3 read answered, 4 write answered (word, stamp).
@@ -81,7 +88,7 @@ pub struct Tray {
 }
 
 impl Tray {
-    // What a refusal to set up gives: all zero.
+    // What a refusal to start or to set up leaves: all zero.
     pub const NONE: Tray = Tray {
         counts: Counts { desks: 0, cells: 0 },
         places: [Place::NONE; 32],
@@ -95,16 +102,6 @@ pub struct Record {
     pub desk: u8,
     pub seat: Seat,
     pub row: [Cell; 32],
-}
-
-impl Record {
-    // What a refusal to start gives: all zero.
-    pub const NONE: Record = Record {
-        tray: Tray::NONE,
-        desk: 0,
-        seat: Seat::NONE,
-        row: [Cell::NONE; 32],
-    };
 }
 
 // What somebody wants of a desk: kind 1 read, 2 write, 3 take, 4 bring, 5 drop. Any number may stand anywhere.
@@ -168,8 +165,7 @@ pub struct Plan {
     pub keepers: [u32; 32],
 }
 
-// What starting gives: code 0 and the desk's fresh record, or a refusal and an all-zero one.
-#[repr(C)]
+// What starting comes to, as the definitions say it: code 0 and the desk's fresh record, or a refusal and an all-zero one.
 pub struct Started {
     pub code: u32,
     pub record: Record,

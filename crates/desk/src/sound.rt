@@ -21,7 +21,7 @@ pub fn is_no_word(word: u32) -> bool
 }
 
 // Whether the desk keeps cell c, whose place is p.
-pub fn keeps_at(n: Counts, p: Place, desk: u8, c: usize) -> bool
+fn keeps_at(n: Counts, p: Place, desk: u8, c: usize) -> bool
     ensures { λ r. ⌜ r ≡ keepsAt n p desk c ⌝ }
 {
     let cells = n.cells as usize;

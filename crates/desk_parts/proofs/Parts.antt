@@ -14,8 +14,9 @@ use Rattle.desk.proofs.Seat as S
 use Rattle.desk.proofs.Seat.Laws as S′
 use Rattle.desk.proofs.Tray as T
 use Rattle.desk.proofs.Tray.Laws as T′
-use Rattle.desk.specs.Desk.{noCell, noPlace, pastCell}
-use Rattle.walks.proofs.Access.{getter, setter, getter-at, setter-at, clearer-at}
+use Rattle.desk.specs.Desk.{noCell, noPlace, noSeat, pastCell}
+use Rattle.desk.specs.Start.{blankCell}
+use Rattle.walks.proofs.Access.{getter, setter, clearer, getter-at, setter-at, clearer-at}
 use Rattle.walks.proofs.Lent.{LentFn}
 use Rattle.walks.proofs.Parts.{Part, Row, of, field-of}
 use Rattle.walks.proofs.Plain.{Plain, Form, form, number, struct, array}
@@ -86,6 +87,9 @@ row-in = record { part = field-of record-form 3 refl refl; past = pastCell; fits
 abbrev pub own-tray : LentFn desk-record
 own-tray = getter tray-in
 
+abbrev pub put-own-tray : LentFn desk-record
+put-own-tray = setter tray-in
+
 abbrev pub own-counts : LentFn desk-record
 own-counts = getter counts-in
 
@@ -95,11 +99,17 @@ own-place = getter-at places-in
 abbrev pub own-desk : LentFn desk-record
 own-desk = getter desk-in
 
+abbrev pub put-own-desk : LentFn desk-record
+put-own-desk = setter desk-in
+
 abbrev pub own-seat : LentFn desk-record
 own-seat = getter seat-in
 
 abbrev pub put-own-seat : LentFn desk-record
 put-own-seat = setter seat-in
+
+abbrev pub clear-own-seat : LentFn desk-record
+clear-own-seat = clearer seat-in noSeat
 
 abbrev pub own-cell : LentFn desk-record
 own-cell = getter-at row-in
@@ -109,3 +119,6 @@ put-own = setter-at row-in
 
 abbrev pub clear-own : LentFn desk-record
 clear-own = clearer-at row-in noCell
+
+abbrev pub keep-own : LentFn desk-record
+keep-own = clearer-at row-in blankCell

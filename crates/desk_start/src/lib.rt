@@ -1,34 +1,83 @@
 // Starting: a tray as it is set up, and a desk's fresh record on it. The table sets itself up from the same parts.
 ghost use mathlib.Core.Path.{_≡_};
-ghost use Prim.Native.Nat.{_<_, _≤_};
-ghost use Rattle.desk.specs.Start.{plannedPlace, heldIf, freshRecord, freshTray, keepersRight, setUpRefusal, startRefusal, startRule};
-use clock::Clock;
-use desk::Cell;
+ghost use Prim.Native.Nat.{_≤_};
+ghost use lib.ListN.{replicate};
+ghost use Rattle.desk.specs.Desk.{noCell};
+ghost use Rattle.desk.specs.Rules.{withRow};
+ghost use Rattle.desk.specs.Start.{freshTray, noTray, noRecord, keepersRight, setUpRefusal, startRefusal, startRule};
+ghost use Rattle.desk.specs.StartInPlace.{keptIn};
 use desk::Counts;
 use desk::Place;
 use desk::Plan;
 use desk::Record;
-use desk::Seat;
-use desk::Started;
 use desk::Tray;
-use desk::sound::keeps_at;
+use desk_acts::cells_of;
+use desk_acts::desk_index;
+use desk_parts::clear_own;
+use desk_parts::clear_own_seat;
+use desk_parts::keep_own;
+use desk_parts::own_counts;
+use desk_parts::own_desk;
+use desk_parts::own_place;
+use desk_parts::put_own_desk;
+use desk_parts::put_own_tray;
+use desk_sums::keeps;
 
-// A desk's record for any plan and any number.
-pub fn start(plan: Plan, desk: u32) -> Started
-    ensures { λ r. ⌜ r ≡ startRule plan desk ⌝ }
+// A desk's record for any plan and any number, in place of the one that is lent.
+pub fn start(v: &mut Record, plan: Plan, desk: u32) -> u32
+    ensures { λ r. ⌜ (r ≡ startRule plan desk .code) × (now (v .exit) ≡ startRule plan desk .«record») ⌝ }
 {
     let code = start_refusal(plan, desk);
+    clear(v);
     if code != 0 {
-        return Started {
-            code,
-            record: Record::NONE,
-        };
+        return code;
     }
-    let t = tray(plan);
-    Started {
-        code: 0,
-        record: fresh(t, desk as u8),
+    put_own_tray(v, tray(plan));
+    put_own_desk(v, desk as u8);
+    keep(v);
+    0
+}
+
+// All zero: what a refusal leaves, and what a fresh record is made from.
+fn clear(v: &mut Record)
+    ensures { λ r. ⌜ now (v .exit) ≡ noRecord ⌝ }
+{
+    put_own_tray(v, no_tray());
+    put_own_desk(v, 0);
+    clear_own_seat(v);
+    clear_row(v);
+}
+
+fn clear_row(v: &mut Record)
+    ensures { λ r. ⌜ now (v .exit) ≡ withRow (now (v .entry)) (replicate 32 noCell) ⌝ }
+{
+    let mut c: usize = 0;
+    while c < 32 {
+        clear_own(v, c);
+        c = c + 1;
     }
+}
+
+// The desk holds the cells that it keeps, blank.
+fn keep(v: &mut Record)
+    requires { ⌜ now v .tray .counts .cells ≤ 32 ⌝ }
+    ensures { λ r. ⌜ now (v .exit) ≡ keptIn (now (v .entry)) ⌝ }
+{
+    let d = desk_index(own_desk(v));
+    let n = cells_of(own_counts(v));
+    let mut c: usize = 0;
+    while c < n {
+        if keeps(own_place(v, c), d) {
+            keep_own(v, c);
+        }
+        c = c + 1;
+    }
+}
+
+pub fn no_tray() -> Tray
+    ensures { λ r. ⌜ r ≡ noTray ⌝ }
+{
+    Tray::NONE
 }
 
 // What setting up refuses, then a number that is no desk; 0 where nothing is wrong.
@@ -45,43 +94,15 @@ fn start_refusal(plan: Plan, desk: u32) -> u32
     0
 }
 
-fn fresh(t: Tray, desk: u8) -> Record
-    ensures { λ r. ⌜ r ≡ freshRecord t desk ⌝ }
-{
-    let n = t.counts;
-    let mut row = [Cell::NONE; 32];
-    for c in 0..32 {
-        row[c] = kept_alone(keeps_at(n, t.places[c], desk, c));
-    }
-    Record {
-        tray: t,
-        desk,
-        seat: Seat::NONE,
-        row,
-    }
-}
-
-// What a desk has of a cell at first: its keeper alone holds it, blank. Without a branch, since loops call it.
-pub fn kept_alone(kept: bool) -> Cell
-    ensures { λ r. ⌜ r ≡ heldIf kept ⌝ }
-{
-    Cell {
-        held: kept,
-        word: 0,
-        stamp: Clock::ZERO,
-    }
-}
-
 // Whether every keeper below the cell count is a desk.
 fn keepers_right(plan: Plan) -> bool
     requires { ⌜ plan .cells ≤ 32 ⌝ }
     ensures { λ r. ⌜ r ≡ keepersRight plan ⌝ }
 {
-    let keepers = plan.keepers;
     let cells = plan.cells as usize;
     let mut right = true;
-    for c in 0..32 {
-        right = right & (!(c < cells) | (keepers[c] < plan.desks));
+    for c in 0..cells {
+        right = right & (plan.keepers[c] < plan.desks);
     }
     right
 }
@@ -102,27 +123,16 @@ pub fn refusal(plan: Plan) -> u32
     0
 }
 
-fn planned_place(cells: usize, c: usize, keeper: u32) -> Place
-    requires { ⌜ (c < cells → keeper < 8) ⌝ }
-    ensures { λ r. ⌜ r ≡ plannedPlace cells c keeper ⌝ }
-{
-    if c < cells {
-        return Place {
-            keeper: keeper as u8,
-        };
-    }
-    Place::NONE
-}
-
 pub fn tray(plan: Plan) -> Tray
     requires { ⌜ setUpRefusal plan ≡ 0 ⌝ }
     ensures { λ r. ⌜ r ≡ freshTray plan ⌝ }
 {
-    let keepers = plan.keepers;
     let cells = plan.cells as usize;
     let mut places = [Place::NONE; 32];
-    for c in 0..32 {
-        places[c] = planned_place(cells, c, keepers[c]);
+    for c in 0..cells {
+        places[c] = Place {
+            keeper: plan.keepers[c] as u8,
+        };
     }
     Tray {
         counts: Counts {

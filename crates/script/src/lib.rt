@@ -46,7 +46,7 @@ fn begin(desks: u32, cells: u32, s: &[u8], at: usize, out: &mut [u8]) -> usize
     if (0 < cells) & (cells <= 32) {
         return second(desks, cells, s, at, out);
     }
-    let made = table_set_up::set_up(Plan {
+    let made = table_set_up::made(Plan {
         desks,
         cells,
         keepers: [0; 32],
@@ -67,7 +67,7 @@ fn second(desks: u32, cells: u32, s: &[u8], at: usize, out: &mut [u8]) -> usize
         return put_bad_line(2, out, 0);
     }
     let keepers = two.n;
-    let made = table_set_up::set_up(Plan {
+    let made = table_set_up::made(Plan {
         desks,
         cells,
         keepers,

@@ -8,6 +8,7 @@ pub mod Rows
 pub mod RuleLaws
 pub mod Rules
 pub mod SetUp
+pub mod SetUpInPlace
 pub mod Sound
 pub mod SoundLaws
 pub mod Table

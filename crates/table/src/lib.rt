@@ -13,7 +13,7 @@ pub struct Table {
 }
 
 impl Table {
-    // What a refusal to set up gives: all zero.
+    // What a refusal to set up leaves: all zero.
     pub const NONE: Table = Table {
         cells: [Cell::NONE; 256],
         tray: Tray::NONE,
@@ -28,7 +28,6 @@ pub struct Outcome {
 }
 
 // What setting up gives: code 0 and the fresh table, or a refusal and an all-zero one.
-#[repr(C)]
 pub struct SetUp {
     pub code: u32,
     pub table: Table,

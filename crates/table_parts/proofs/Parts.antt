@@ -1,16 +1,20 @@
 -- The table and its parts for the walks (crate `walks`), and what each function of this crate does, as its callers cite it.
 -- Assumes nothing.
 use mathlib.Core.Path.{refl}
-use Rattle.desk.specs.Desk.{noCell, noPlace, pastCell, pastSeat}
+use mathlib.Core.List.{[], _∷_}
+use Prim.Native.Nat.{_<_}
+use mir.Syntax.{w64}
+use Rattle.desk.specs.Desk.{noCell, noPlace, noSeat, pastCell, pastSeat}
+use Rattle.desk.specs.Start.{blankCell}
 use Rattle.desk_parts.proofs.Parts.{cell, spot, counts as both-counts, tray as whole-tray, seat, counts-of-tray, places-of-tray}
 use Rattle.table.proofs.Table as T
 use Rattle.table.proofs.Table.Laws as T′
-use Rattle.walks.proofs.Access.{getter, getter-at, setter-at, clearer-at}
-use Rattle.walks.proofs.Lent.{LentFn}
+use Rattle.walks.proofs.Access.{getter, setter, getter-at, setter-at, clearer-at}
+use Rattle.walks.proofs.Lent.{LentFn, where-holds, changes}
 use Rattle.table.specs.declared.Table.{Table}
 use Rattle.table.specs.Rows.{Sized}
-use Rattle.walks.proofs.Parts.{Part, Row, of, field-of, long}
-use Rattle.walks.proofs.Plain.{Plain, Form, IsOf, form, struct}
+use Rattle.walks.proofs.Parts.{Part, Row, of, field-of, long, at, with-at}
+use Rattle.walks.proofs.Plain.{Plain, Form, IsOf, form, number, struct}
 
 abbrev pub table-form : Form
 table-form = form T.struct T.propositions T′.the-laws T′.lowers T′.the-plain (λ d. refl) (λ v. tt)
@@ -41,6 +45,9 @@ counts = getter counts-in
 abbrev pub tray : LentFn table
 tray = getter tray-in
 
+abbrev pub put-tray : LentFn table
+put-tray = setter tray-in
+
 abbrev pub place : LentFn table
 place = getter-at places-in
 
@@ -50,6 +57,9 @@ seat-of = getter-at seats-in
 abbrev pub put-seat : LentFn table
 put-seat = setter-at seats-in
 
+abbrev pub clear-seat : LentFn table
+clear-seat = clearer-at seats-in noSeat
+
 abbrev pub cell-at : LentFn table
 cell-at = getter-at cells-in
 
@@ -58,6 +68,12 @@ put-cell = setter-at cells-in
 
 abbrev pub clear-cell : LentFn table
 clear-cell = clearer-at cells-in noCell
+
+abbrev pub keep-cell : LentFn table
+keep-cell = clearer-at cells-in blankCell
+
+abbrev pub copy-first : LentFn table
+copy-first = changes table (number w64 ∷ []) (where-holds (λ x. x .1 .0 < 256)) (λ t a. with-at cells-in t (a .0) (at cells-in t 0))
 
 -- ---- its arrays have their lengths
 pub sized : (t : Table) → IsOf table t → Sized t

@@ -1,46 +1,89 @@
-// Setting up a table.
+// Setting up a table where it lies, and one that its caller owns.
 ghost use mathlib.Core.Path.{_≡_};
-ghost use Rattle.table.specs.SetUp.{freshTable, setUpRule};
-use desk::Cell;
+ghost use lib.ListN.{replicate};
+ghost use Rattle.desk.specs.Desk.{noCell, noSeat};
+ghost use Rattle.table.specs.SetUp.{noTable, setUpRule};
+ghost use Rattle.table.specs.SetUpInPlace.{Housed, keptIn, withCells, withSeats};
 use desk::Plan;
-use desk::Seat;
-use desk::Tray;
-use desk::sound::keeps_at;
-use desk_start::kept_alone;
+use desk_acts::at;
+use desk_acts::cells_of;
+use desk_acts::keeper_of;
+use desk_start::no_tray;
+use desk_start::refusal;
+use desk_start::tray;
 use table::SetUp;
 use table::Table;
+use table_parts::clear_cell;
+use table_parts::clear_seat;
+use table_parts::copy_first;
+use table_parts::counts;
+use table_parts::keep_cell;
+use table_parts::place;
+use table_parts::put_tray;
 
-// A fresh table from any plan.
-pub fn set_up(plan: Plan) -> SetUp
+// A fresh table from any plan, in place of the one that is lent.
+pub fn set_up(t: &mut Table, plan: Plan) -> u32
+    ensures { λ r. ⌜ (r ≡ setUpRule plan .code) × (now (t .exit) ≡ setUpRule plan .table) ⌝ }
+{
+    let code = refusal(plan);
+    clear(t);
+    if code != 0 {
+        return code;
+    }
+    put_tray(t, tray(plan));
+    keep(t);
+    0
+}
+
+// The same as a value, for who owns the table: the borrow checker covers such a caller.
+pub fn made(plan: Plan) -> SetUp
     ensures { λ r. ⌜ r ≡ setUpRule plan ⌝ }
 {
-    let code = desk_start::refusal(plan);
-    if code != 0 {
-        return SetUp {
-            code,
-            table: Table::NONE,
-        };
-    }
-    SetUp {
-        code: 0,
-        table: fresh(desk_start::tray(plan)),
+    let mut table = Table::NONE;
+    let code = set_up(&mut table, plan);
+    SetUp { code, table }
+}
+
+// All zero: what a refusal leaves, and what a fresh table is made from.
+fn clear(t: &mut Table)
+    ensures { λ r. ⌜ now (t .exit) ≡ noTable ⌝ }
+{
+    clear_cells(t);
+    clear_seats(t);
+    put_tray(t, no_tray());
+}
+
+fn clear_cells(t: &mut Table)
+    ensures { λ r. ⌜ now (t .exit) ≡ withCells (now (t .entry)) (replicate 256 noCell) ⌝ }
+{
+    clear_cell(t, 0);
+    let mut i: usize = 1;
+    while i < 256 {
+        copy_first(t, i);
+        i = i + 1;
     }
 }
 
-// Entry i of the table is cell i % 32 of desk i / 32.
-fn fresh(t: Tray) -> Table
-    ensures { λ r. ⌜ r ≡ freshTable t ⌝ }
+fn clear_seats(t: &mut Table)
+    ensures { λ r. ⌜ now (t .exit) ≡ withSeats (now (t .entry)) (replicate 8 noSeat) ⌝ }
 {
-    let n = t.counts;
-    let mut cells = [Cell::NONE; 256];
-    for i in 0..256 {
-        let desk = (i / 32) as u8;
-        let c = i % 32;
-        cells[i] = kept_alone(keeps_at(n, t.places[c], desk, c));
+    let mut d: usize = 0;
+    while d < 8 {
+        clear_seat(t, d);
+        d = d + 1;
     }
-    Table {
-        cells,
-        tray: t,
-        seats: [Seat::NONE; 8],
+}
+
+// Each cell is held by its keeper, blank.
+fn keep(t: &mut Table)
+    requires { ⌜ Housed (now t .tray) ⌝ }
+    ensures { λ r. ⌜ now (t .exit) ≡ keptIn (now (t .entry)) ⌝ }
+{
+    let n = cells_of(counts(t));
+    let mut c: usize = 0;
+    while c < n {
+        let d = keeper_of(place(t, c));
+        keep_cell(t, at(d, c));
+        c = c + 1;
     }
 }

@@ -1,4 +1,5 @@
 pub mod Each
+pub mod Marked
 pub mod Or
 pub mod Part
 pub mod Replaced

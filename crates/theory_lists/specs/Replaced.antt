@@ -7,7 +7,7 @@ use Prim.Native.Nat.{ℕ, zero, suc, _+_, _<_, _≤_}
 use native.Mathlib.Nat.{eq-or-lt-of-le, le-of-suc-le-suc, not-suc-le-zero}
 use native.Mathlib.Numerals.{add-one}
 use native.Mathlib.Omega.{arith}
-use lib.ListN.{length, getD, set, length-set}
+use lib.ListN.{length, getD, set, replicate, length-set, length-replicate, getD-replicate}
 use lib.Seq.{getD-set-same, getD-set-other, ext-getD}
 use Rattle.theory_lists.specs.Each.{mapAt, length-mapAt, getD-mapAt}
 
@@ -55,3 +55,7 @@ module _ {A : Type 0} where
   pub upTo-mapAt : (f : ℕ → A → A) (n : ℕ) (l : List A) (d : A) → length l ≡ n → upTo (λ k. f k (getD l k d)) n l ≡ mapAt f l
   upTo-mapAt f n l d e =
       upTo-all (λ k. f k (getD l k d)) n l (mapAt f l) d e (length-mapAt f l ∙ e) (λ k h. getD-mapAt f l k d d (omega arith))
+
+  -- all n places replaced by one value
+  pub upTo-same : (x : A) (n : ℕ) (l : List A) → length l ≡ n → upTo (λ _. x) n l ≡ replicate n x
+  upTo-same x n l e = upTo-all (λ _. x) n l (replicate n x) x e (length-replicate n x) (λ k h. getD-replicate n k x x h)

@@ -39,6 +39,10 @@ module _ {R X : Plain} (p : Part R X) where
   abbrev pub setter : LentFn R
   setter = changes R (X ∷ []) always (λ t a. p .put t (a .0))
 
+  -- one that stores a constant x
+  abbrev pub clearer : Of X → LentFn R
+  clearer x = changes R [] always (λ t a. p .put t x)
+
 module _ {R E : Plain} {n : ℕ} (r : Row R E n) where
   abbrev pub getter-at : LentFn R
   getter-at = gives R (number w64 ∷ []) E (where-holds (λ x. x .1 .0 < n)) (λ t a. at r t (a .0)) (λ t a. t)

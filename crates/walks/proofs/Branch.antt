@@ -1,8 +1,10 @@
 -- What a test chooses, where the code has branched on it.
 -- Assumes nothing.
-use mathlib.Core.Path.{_≡_, refl}
+use mathlib.Core.Path.{_≡_, refl, sym, subst, _∙_}
 use mathlib.Core.Bool.{Bool, true, false, not, cond}
-use lib.Dec.{T}
+use Prim.Native.Nat.{ℕ}
+use borrow.Author.Tests.{eqb-true, eq-eqb}
+use lib.Dec.{T, eqb}
 
 pub if-yes : {A : Type 0} (b : Bool) (x y : A) → T b → cond b x y ≡ x
 if-yes true x y h = refl
@@ -24,3 +26,10 @@ is-false false h = refl
 pub un-not : (b : Bool) → T (not (not b)) → b ≡ true
 un-not true h = refl
 un-not false h = absurd h
+
+-- `if n != 0`, and its other arm
+pub not-zero : (n : ℕ) → T (not (eqb n 0)) → n ≡ 0 → ⊥
+not-zero n h e = let z : _≡_ {A = Bool} true false = sym (eq-eqb n 0 e) ∙ is-false (eqb n 0) h in subst (λ b. T b) z tt
+
+pub is-zero : (n : ℕ) → T (not (not (eqb n 0))) → n ≡ 0
+is-zero n h = eqb-true n 0 (un-not (eqb n 0) h)

@@ -205,7 +205,8 @@ fn result<T>(code: u32, value: T) -> Result<T, u32> {
 
 impl Part for Proved {
     fn start(plan: &Plan, desk: u32) -> Result<Record, u32> {
-        let sys::Started { code, record } = sys::desk_start(plan.same(), desk);
+        let mut record = sys::Record::default();
+        let code = sys::start(&mut record, plan.same(), desk);
         result(code, record.same())
     }
 
@@ -253,7 +254,8 @@ pub struct ProvedTable(pub sys::Table);
 
 impl Engine for ProvedTable {
     fn set_up(plan: &Plan) -> Result<ProvedTable, u32> {
-        let sys::SetUp { code, table } = sys::table_set_up(plan.same());
+        let mut table = sys::Table::default();
+        let code = sys::set_up(&mut table, plan.same());
         result(code, ProvedTable(table))
     }
 

@@ -84,7 +84,8 @@ fn one_long_run_of_each_shape() {
                 cells,
                 keepers: std::array::from_fn(|_| rng.below(desks)),
             };
-            let mut ours = sys::table_set_up(plan.same()).table;
+            let mut ours = sys::Table::default();
+            assert_eq!(sys::set_up(&mut ours, plan.same()), 0);
             let mut twins = Table::new(&plan).expect("a good set-up");
             let mood = Mood::new(&mut rng);
             for _ in 0..300 {
@@ -373,26 +374,44 @@ fn frames_written() {
     tally.expect("frames written", &[0, 32, 33, 34, 35, 37, 38], 5_000);
 }
 
+/// Something in the first and the last of these, which a fresh table or record does not have.
+fn mark(cells: &mut [sys::Cell], seats: &mut [sys::Seat]) {
+    let last = cells.len() - 1;
+    for c in [0, last] {
+        cells[c].held = true;
+        (cells[c].word, cells[c].stamp.n[7]) = (27, 1);
+    }
+    for seat in seats {
+        (seat.clock.n[7], seat.slot.kind, seat.slot.cell) = (1, 2, 3);
+        (seat.slot.word, seat.slot.clock.n[0], seat.served) = (500, 1, true);
+    }
+}
+
 #[test]
 fn set_up_and_start() {
     let mut tallies = [Tally::default(), Tally::default()];
+    // What is lent has what the call before left there, fresh or zero, and a mark of its own.
+    let (mut table, mut record) = (sys::Table::default(), sys::Record::default());
     let mut hold = |plan: &Plan, desk| {
         let what = (plan, desk);
-        let ours = sys::table_set_up(plan.same());
+        mark(&mut table.cells, &mut table.seats);
+        mark(&mut record.row, std::slice::from_mut(&mut record.seat));
+        (table.tray.counts.desks, record.desk) = (7, 5);
+        let ours = sys::set_up(&mut table, plan.same());
         let (number, twins) = match Table::new(plan) {
             Ok(table) => (0, table),
             Err(refusal) => (code(refusal), Table::default()),
         };
-        assert_eq!(ours.code, number, "{what:?}");
-        assert!(ours.table == twins.same(), "{what:?}: another table");
+        assert_eq!(ours, number, "{what:?}");
+        assert!(table == twins.same(), "{what:?}: another table");
         tallies[0].add(number);
-        let ours = sys::desk_start(plan.same(), desk);
+        let ours = sys::start(&mut record, plan.same(), desk);
         let (number, twins) = match Record::new(plan, desk) {
             Ok(record) => (0, record),
             Err(refusal) => (code(refusal), Record::default()),
         };
-        assert_eq!(ours.code, number, "{what:?}");
-        assert!(ours.record == twins.same(), "{what:?}: another record");
+        assert_eq!(ours, number, "{what:?}");
+        assert!(record == twins.same(), "{what:?}: another record");
         tallies[1].add(number);
     };
     for seed in 0..200_000 {

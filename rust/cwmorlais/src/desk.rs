@@ -83,11 +83,9 @@ const BLANK: u32 = 2;
 impl Desk {
     /// A desk before its first event: 20, 21, 22, or 10 if `desk` is not below the desk count.
     pub fn start(plan: &Plan, desk: u32) -> Result<Desk, Refusal> {
-        let started = sys::desk_start(*plan, desk);
-        match started.code {
-            DONE => Ok(Desk {
-                record: started.record,
-            }),
+        let mut record = sys::Record::default();
+        match sys::start(&mut record, *plan, desk) {
+            DONE => Ok(Desk { record }),
             code => Err(Refusal::given(code)),
         }
     }

@@ -182,26 +182,6 @@ pub struct Answer {
     pub message: Message,
 }
 
-/// A fresh record, or a refusal with an all-zero one.
-#[repr(C)]
-#[derive(Clone, Copy, Debug, Default, PartialEq, Eq)]
-pub struct Started {
-    /// 0, or a refusal's number.
-    pub code: u32,
-    /// The record.
-    pub record: Record,
-}
-
-/// A fresh table, or a refusal with an all-zero one.
-#[repr(C)]
-#[derive(Clone, Copy, Debug, Default, PartialEq, Eq)]
-pub struct SetUp {
-    /// 0, or a refusal's number.
-    pub code: u32,
-    /// The table.
-    pub table: Table,
-}
-
 /// A message read, or a refusal with an all-zero one and 0 used.
 #[repr(C)]
 #[derive(Clone, Copy, Debug, Default, PartialEq, Eq)]
@@ -242,9 +222,10 @@ pub fn frame_write(message: &Message, out: &mut [u8]) -> Written {
 // lent, and to keep nothing of it. What a caller owes beside that is what `&mut` and `bool` are in
 // Rust: memory that is there, aligned and nobody else's until the function returns, and 0 or 1.
 unsafe extern "C" {
-    /// A fresh record: 20, 21, 22, then 10.
+    /// A fresh record in place of the one lent: 0, or 20, 21, 22, then 10, and the record is all
+    /// zero.
     #[link_name = "cwmorlais_desk_start"]
-    pub safe fn desk_start(plan: Plan, desk: u32) -> Started;
+    pub safe fn start(record: &mut Record, plan: Plan, desk: u32) -> u32;
     /// The desk's user wants something: 9, 8, 11, 12, 14, 16. Code 1 comes with the request.
     #[link_name = "cwmorlais_desk_event"]
     pub safe fn desk_event(record: &mut Record, event: Event) -> Answer;
@@ -254,9 +235,9 @@ unsafe extern "C" {
     /// The answer came to what this desk asked: 9, 13, 15.
     #[link_name = "cwmorlais_desk_bring"]
     pub safe fn desk_bring(record: &mut Record, answer: Message) -> Answer;
-    /// A fresh table: 20, 21, 22.
+    /// A fresh table in place of the one lent: 0, or 20, 21, 22, and the table is all zero.
     #[link_name = "cwmorlais_table_set_up"]
-    pub safe fn table_set_up(plan: Plan) -> SetUp;
+    pub safe fn set_up(table: &mut Table, plan: Plan) -> u32;
     /// One event: 9, 8, 10, 11, 12, 13, 14, 16.
     #[link_name = "cwmorlais_table_event"]
     pub safe fn table_event(table: &mut Table, event: Event) -> Reply;
@@ -296,8 +277,6 @@ layout! {
     Reply 12 { code 0, value 4, count 8 }
     Message 40 { kind 0, desks 1, desk 2, cell 3, word 4, clock 8 }
     Answer 52 { reply 0, message 12 }
-    Started 1396 { code 0, record 4 }
-    SetUp 10888 { code 0, table 4 }
     Reading 56 { code 0, message 4, used 48 }
     Written 16 { code 0, used 8 }
 }

@@ -80,11 +80,9 @@ pub enum Done {
 impl Table {
     /// A fresh table: 20, 21, 22.
     pub fn set_up(plan: &Plan) -> Result<Table, Refusal> {
-        let set_up = sys::table_set_up(*plan);
-        match set_up.code {
-            0 => Ok(Table {
-                table: set_up.table,
-            }),
+        let mut table = sys::Table::default();
+        match sys::set_up(&mut table, *plan) {
+            0 => Ok(Table { table }),
             code => Err(Refusal::given(code)),
         }
     }

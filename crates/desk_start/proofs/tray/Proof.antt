@@ -1,92 +1,118 @@
--- `desk_start::tray` meets its contract. The loop's invariant: the places passed are as planned.
+-- `desk_start::tray` meets its contract. The loop's invariant: the places passed are as planned. Those past the cell count stay empty.
 -- Assumes nothing.
 use borrow.Author.Needs.{needs}
+use borrow.Author.Tests.{lt-ltb, le-ltb}
+use native.Mathlib.Decide.{decLt}
 use native.Mathlib.Omega.{arith}
-use mathlib.Core.Path.{_≡_, refl, sym, ap₂, _∙_}
+use mathlib.Core.Path.{_≡_, refl, sym, ap, _∙_}
 use mathlib.Core.List.{List}
-use Prim.Native.Nat.{ℕ, _-_, _≤_}
-use lib.ListN.{length, getD, set, replicate}
-use Rattle.theory_lists.specs.Replaced.{upTo, upTo-step, upTo-all}
+use Prim.Native.Nat.{ℕ, _-_, _≤_, _<_}
+use lib.ListN.{length, getD, set, replicate, length-replicate, getD-replicate}
+use lib.Seq.{ext-getD}
+use Rattle.theory_lists.specs.Replaced.{upTo, upTo-step, upTo-passed, upTo-ahead, length-upTo}
 use Rattle.theory_lists.specs.Each.{mapAt, length-mapAt, getD-mapAt}
 use Rattle.desk.specs.declared.Place.{Place}
 use Rattle.desk.specs.declared.Plan.{Plan}
 use Rattle.desk.specs.Desk.{noPlace}
 use Rattle.desk.specs.Start.{plannedPlace, freshTray}
 use Rattle.desk.specs.StartLaws.{settled, keeper-below}
+use Rattle.desk_start.proofs.tray.Lts.{In-loop}
+use Rattle.desk_start.proofs.tray.Reads.{Pre, Post}
 use Rattle.desk_start.proofs.tray.Statement.{statement}
 use Rattle.desk_start.proofs.tray.Tie as tie
 
 -- what the loop stores at place k
 abbrev planned-at : Plan → ℕ → Place
-planned-at plan k = plannedPlace (plan .cells) k (getD (plan .keepers) k 0)
+planned-at plan k = record { keeper = getD (plan .keepers) k 0 }
+
+abbrev none : List Place
+none = replicate 32 noPlace
+
+-- with all cells passed, the places are the plan's
+all-planned : (p : Plan) → length (p .keepers) ≡ 32 → upTo (planned-at p) (p .cells) none ≡ mapAt (plannedPlace (p .cells)) (p .keepers)
+all-planned p long =
+    ext-getD noPlace (upTo (planned-at p) (p .cells) none) (mapAt (plannedPlace (p .cells)) (p .keepers))
+    (length-upTo (planned-at p) (p .cells) none ∙ length-replicate 32 noPlace ∙ sym (length-mapAt (plannedPlace (p .cells)) (p .keepers) ∙ long))
+    (λ k h. at k (omega (arith, length-upTo (planned-at p) (p .cells) none, length-replicate 32 noPlace)))
+  where
+    at : (k : ℕ) → k < 32 → getD (upTo (planned-at p) (p .cells) none) k noPlace ≡ getD (mapAt (plannedPlace (p .cells)) (p .keepers)) k noPlace
+    at k i =
+        elim (decLt k (p .cells)) [
+          | yes h ↦
+              upTo-passed (planned-at p) (p .cells) none k noPlace h (omega (arith, length-replicate 32 noPlace))
+              ∙ sym (getD-mapAt (plannedPlace (p .cells)) (p .keepers) k 0 noPlace (omega arith) ∙ rw (lt-ltb k (p .cells) h))
+          | no h ↦
+              upTo-ahead (planned-at p) (p .cells) none k noPlace (omega arith) ∙ getD-replicate 32 k noPlace noPlace i
+              ∙ sym (getD-mapAt (plannedPlace (p .cells)) (p .keepers) k 0 noPlace (omega arith) ∙ rw (le-ltb k (p .cells) (omega arith)))
+        ]
 
 abbrev Inv-loop : tie.InvT-loop
-Inv-loop plan keepers cells places₀ c₀ places c = (c ≤ 32) × (places ≡ upTo (planned-at plan) c (replicate 32 noPlace))
+Inv-loop plan cells places₀ c₀ places c = (c ≤ plan .cells) × (places ≡ upTo (planned-at plan) c none)
 
 abbrev μ-loop : tie.MeasureT-loop
-μ-loop plan keepers cells places₀ c₀ places c = 32 - c
+μ-loop plan cells places₀ c₀ places c = plan .cells - c
 
 cast-cells : tie.Need-cast-cells Inv-loop μ-loop
 cast-cells c = search needs
 
 loop-holds : tie.Need-loop-holds Inv-loop μ-loop
 unfolding upTo
-loop-holds c = (search needs, refl)
+loop-holds c = (omega arith, refl)
 
-mul-planned-place : tie.Need-mul-planned-place Inv-loop μ-loop
-mul-planned-place c = search needs
+-- a cell of the tray is one of 32
+few : (c : In-loop Pre Post Inv-loop μ-loop) → c .before .loop .c < 32
+few c =
+    let at-start = c .before .before in
+    omega (arith, settled (at-start .args .t1) (at-start .pre) .cells-most)
 
-array-read-planned-place : tie.Need-array-read-planned-place Inv-loop μ-loop
-array-read-planned-place c = search needs
+mul-t9 : tie.Need-mul-t9 Inv-loop μ-loop
+mul-t9 c = record { fits = omega (arith, few c) }
 
-planned-place-requires : tie.Need-planned-place-requires Inv-loop μ-loop
-planned-place-requires c κs =
-    let at-start = c .before .before .before .before in
-    let p = at-start .args .plan in
+element-copy-out-t12 : tie.Need-element-copy-out-t12 Inv-loop μ-loop
+element-copy-out-t12 c = few c
+
+cast-t13 : tie.Need-cast-t13 Inv-loop μ-loop
+cast-t13 c =
+    let at-start = c .before .before .before in
+    let p = at-start .args .t1 in
     let long : length (p .keepers) ≡ 32 = search needs in
     let s = settled p (at-start .pre) in
-    λ used. omega (arith, keeper-below s (c .before .loop .c) used (omega arith), s .desks-most)
+    record { fits = omega (arith, keeper-below s (c .before .before .loop .c) (omega arith) (omega (arith, few (c .before))), s .desks-most) }
 
 array-set-from-places : tie.Need-array-set-from-places Inv-loop μ-loop
-array-set-from-places c = search needs
+array-set-from-places c = few (c .before)
 
 add-c : tie.Need-add-c Inv-loop μ-loop
-add-c c = search needs
+add-c c = record { fits = omega (arith, few (c .before)) }
 
 loop-less : tie.Need-loop-less Inv-loop μ-loop
 loop-less c = search needs
 
 loop-again : tie.Need-loop-again Inv-loop μ-loop
 loop-again c =
-    let l = c .before .before .loop in (
-      omega arith,
-      ap₂ (λ (r : List Place) (x : Place). set r (l .c) x) (l .inv .1) (c .planned-place .ensures)
-          ∙ upTo-step (planned-at (c .before .before .before .before .before .args .plan)) (l .c) (replicate 32 noPlace),
-    )
+    let l = c .before .before .loop in
+    let p = c .before .before .before .args .t1 in
+    (omega arith, ap (λ (r : List Place). set r (l .c) (planned-at p (l .c))) (l .inv .1) ∙ upTo-step (planned-at p) (l .c) none)
 
-cast-t15 : tie.Need-cast-t15 Inv-loop μ-loop
-cast-t15 c =
-    let at-start = c .before .before .before .before .before in
-    omega (arith, settled (at-start .args .plan) (at-start .pre) .desks-most)
+cast-t17 : tie.Need-cast-t17 Inv-loop μ-loop
+cast-t17 c =
+    let at-start = c .before .before in
+    omega (arith, settled (at-start .args .t1) (at-start .pre) .desks-most)
 
-cast-t16 : tie.Need-cast-t16 Inv-loop μ-loop
-cast-t16 c =
-    let at-start = c .before .before .before .before .before .before in
-    omega (arith, settled (at-start .args .plan) (at-start .pre) .cells-most)
+cast-t19 : tie.Need-cast-t19 Inv-loop μ-loop
+cast-t19 c =
+    let at-start = c .before .before in
+    omega (arith, settled (at-start .args .t1) (at-start .pre) .cells-most)
 
 returns : tie.Need-returns Inv-loop μ-loop
 unfolding freshTray
 returns c =
-    let p = c .before .before .before .before .before .before .args .plan in
-    let l = c .before .before .before .loop in
+    let p = c .before .before .args .t1 in
+    let l = c .before .loop in
     let long : length (p .keepers) ≡ 32 = search needs in
-    let end : l .c ≡ 32 = omega arith in
-    let place = plannedPlace (p .cells) in
-    let all =
-    upTo-all (planned-at p) (l .c) (replicate 32 noPlace) (mapAt place (p .keepers)) noPlace (sym end)
-    (omega (arith, length-mapAt place (p .keepers))) (λ k h. getD-mapAt place (p .keepers) k 0 noPlace (omega arith))
-    in
-    λ i. record { counts = record { desks = p .desks; cells = p .cells }; places = (l .inv .1 ∙ all) i }
+    let end : l .c ≡ p .cells = omega arith in
+    let all = l .inv .1 ∙ ap (λ (n : ℕ). upTo (planned-at p) n none) end ∙ all-planned p long in
+    λ i. record { counts = record { desks = p .desks; cells = p .cells }; places = all i }
 
 pub tray-spec : {M : Type 1} → statement M
 tray-spec =
@@ -96,13 +122,13 @@ tray-spec =
     μ-loop
     cast-cells
     loop-holds
-    mul-planned-place
-    array-read-planned-place
-    planned-place-requires
+    mul-t9
+    element-copy-out-t12
+    cast-t13
     array-set-from-places
     add-c
     loop-less
     loop-again
-    cast-t15
-    cast-t16
+    cast-t17
+    cast-t19
     returns)

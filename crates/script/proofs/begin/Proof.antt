@@ -30,13 +30,13 @@ same-length c = search needs
 returns : tie.Need-returns
 returns c = c .before .before .second .ensures
 
-set-up-requires : tie.Need-set-up-requires
-set-up-requires c κs = search needs
+made-requires : tie.Need-made-requires
+made-requires c κs = search needs
 
 put-single-requires : tie.Need-put-single-requires
 put-single-requires c κs =
-    let code : Fits w32 (c .before .set-up .result .code) = search needs in
-    omega (arith, c .before .before .before .before .before .pre, length-line (c .before .set-up .result .code) [] (omega arith, tt))
+    let code : Fits w32 (c .before .made .result .code) = search needs in
+    omega (arith, c .before .before .before .before .before .pre, length-line (c .before .made .result .code) [] (omega arith, tt))
 
 same-length-2 : tie.Need-same-length-2
 same-length-2 c = search needs
@@ -46,7 +46,7 @@ unfolding setUp
 returns-2 c =
     let a = c .before .before .before .before .before .before .before .before .args in
     let refused = cells-refused setUp event (a .s .now) (a .at) (a .desks) (a .cells) (c .before .before .before .before .before .if1 .left) in
-    let made = c .before .before .before .before .set-up in
+    let made = c .before .before .before .before .made in
     let code : Fits w32 (made .result .code) = search needs in
     let put = c .before .before .put-single .ensures in (
       rw (refused, ← ap (λ (m : SetUp). m .code) (made .ensures)) put,
@@ -60,7 +60,7 @@ begin-spec =
     second-requires
     same-length
     returns
-    set-up-requires
+    made-requires
     put-single-requires
     same-length-2
     returns-2)

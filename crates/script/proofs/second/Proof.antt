@@ -61,14 +61,14 @@ returns c =
       omega (arith, put .after, length-bad-line 2 (omega arith)),
     )
 
-set-up-requires : tie.Need-set-up-requires
-set-up-requires c κs = search needs
+made-requires : tie.Need-made-requires
+made-requires c κs = search needs
 
 put-single-requires : tie.Need-put-single-requires
 put-single-requires c κs =
-    let code : Fits w32 (c .before .before .set-up .result .code) = search needs in
+    let code : Fits w32 (c .before .before .made .result .code) = search needs in
     let start = c .before .before .before .before .before .before .before .before .before in
-    omega (arith, start .pre, length-line (c .before .before .set-up .result .code) [] (omega arith, tt))
+    omega (arith, start .pre, length-line (c .before .before .made .result .code) [] (omega arith, tt))
 
 same-length-2 : tie.Need-same-length-2
 same-length-2 c = search needs
@@ -78,7 +78,7 @@ returns-2 c =
     let start = c .before .before .before .before .before .before .before .before .before .before .before .before in
     let a = start .args in
     let l = c .before .before .before .before .before .before .before .before .before .read-line in
-    let m = c .before .before .before .before .before .set-up in
+    let m = c .before .before .before .before .before .made in
     let cells = start .pre .0 in
     let same = c .before .before .before .before .before .before .before .if1 .left in
     let refused = c .before .before .before .before .if2 .taken in
@@ -95,7 +95,7 @@ returns-2 c =
 run-requires : tie.Need-run-requires
 run-requires c κs =
     let start = c .before .before .before .before .before .before .before .before .before in
-    let m = c .before .before .set-up in
+    let m = c .before .before .made in
     let long : length (c .before .before .before .before .before .before .read-line .result .n) ≡ 32 = search (needs, c .before .before .before .before .before .before .read-line .ok .1 .1 .1 .0) in
     let plan : Plan = record { desks = start .args .desks; cells = start .args .cells; keepers = c .before .before .before .before .before .before .read-line .result .n } in
     ((rw (m .ensures) (set-up-sound plan long (rw (← m .ensures) (c .before .if2 .left))), rw (m .ensures) (set-up-sized plan long)), start .pre .1)
@@ -108,7 +108,7 @@ returns-3 c =
     let start = c .before .before .before .before .before .before .before .before .before .before .before .before in
     let a = start .args in
     let l = c .before .before .before .before .before .before .before .before .before .read-line in
-    let m = c .before .before .before .before .before .set-up in
+    let m = c .before .before .before .before .before .made in
     let cells = start .pre .0 in
     let same = c .before .before .before .before .before .before .before .if1 .left in
     let code = c .before .before .before .before .if2 .left in
@@ -126,7 +126,7 @@ second-spec =
     put-bad-line-requires
     same-length
     returns
-    set-up-requires
+    made-requires
     put-single-requires
     same-length-2
     returns-2

@@ -1,6 +1,7 @@
 -- `table_parts::clear_cell` meets its contract.
 -- Assumes nothing.
-use Rattle.desk_parts.proofs.Clear.{clears}
+use mathlib.Core.Bool.{false}
+use Rattle.desk_parts.proofs.Clear.{stores}
 use Rattle.table_parts.proofs.Parts as parts
 use Rattle.table_parts.proofs.clear_cell.Code as code
 use Rattle.table_parts.proofs.clear_cell.Key as key
@@ -8,4 +9,4 @@ use Rattle.table_parts.proofs.clear_cell.Statement.{statement}
 
 pub clear-cell-spec : {M : Type 1} → statement M
 unfolding code.routine
-clear-cell-spec 𝓤 H 𝓜 𝓖 𝓡 = clears parts.cells-in 𝓤 H 𝓜 𝓖 𝓡 code.env key.name (code.unfolded 𝓤 H 𝓜 𝓡)
+clear-cell-spec 𝓤 H 𝓜 𝓖 𝓡 = stores parts.cells-in false 𝓤 H 𝓜 𝓖 𝓡 code.env key.name (code.unfolded 𝓤 H 𝓜 𝓡)

@@ -283,9 +283,9 @@ fn tables(desks: u32, cells: u32) {
     let plan = plan(desks, cells);
     let pair = pair(
         State::New,
-        (plan.same(), plan),
-        |plan| {
-            black_box(sys::table_set_up(*plan));
+        ((plan.same(), sys::Table::default()), plan),
+        |(plan, table)| {
+            black_box(sys::set_up(table, *plan));
         },
         |plan| {
             let _ = black_box(Table::new(plan));
@@ -380,9 +380,9 @@ fn records(desks: u32, cells: u32) {
     let plan = plan(desks, cells);
     let pair = self::pair(
         State::New,
-        (plan.same(), plan),
-        |plan| {
-            black_box(sys::desk_start(*plan, 0));
+        ((plan.same(), sys::Record::default()), plan),
+        |(plan, record)| {
+            black_box(sys::start(record, *plan, 0));
         },
         |plan| {
             let _ = black_box(Record::new(plan, 0));
