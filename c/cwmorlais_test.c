@@ -142,8 +142,8 @@ static cwmorlais_message received(const uint8_t *bytes) {
 static cwmorlais_answer by_desks(cwmorlais_record *desk, frame *under_way, cwmorlais_event e) {
     uint8_t *bytes = under_way[e.desk];
     cwmorlais_message m = e.kind == TAKE || e.kind == BRING ? received(bytes) : no_message;
-    cwmorlais_answer a = e.kind == TAKE ? cwmorlais_desk_serve(&desk[whole_plan.keepers[m.cell]], m)
-        : e.kind == BRING ? cwmorlais_desk_bring(&desk[e.desk], m)
+    cwmorlais_answer a = e.kind == TAKE ? cwmorlais_desk_serve(&desk[whole_plan.keepers[m.cell]], &m)
+        : e.kind == BRING ? cwmorlais_desk_bring(&desk[e.desk], &m)
         : cwmorlais_desk_event(&desk[e.desk], e);
     if (a.reply.code == 1 || e.kind == TAKE) {
         EXPECT(cwmorlais_frame_write(&a.message, bytes, CWMORLAIS_FRAME_BYTES).code == 0);
@@ -241,8 +241,8 @@ static void refuse_at_a_desk(void) {
     refused(11, cwmorlais_desk_event(&v, (cwmorlais_event){.kind = READ, .cell = 4}), &was, &v);
     refused(14, cwmorlais_desk_event(&v, (cwmorlais_event){.kind = DROP, .cell = 2}), &was, &v);
     refused(16, cwmorlais_desk_event(&v, (cwmorlais_event){.kind = WRITE, .cell = 2, .word = 7}), &was, &v);
-    refused(13, cwmorlais_desk_bring(&v, no_message), &was, &v);
-    refused(15, cwmorlais_desk_serve(&v, no_message), &was, &v);
+    refused(13, cwmorlais_desk_bring(&v, &no_message), &was, &v);
+    refused(15, cwmorlais_desk_serve(&v, &no_message), &was, &v);
 
     /* A read of a cell that is not held is asked for, whatever desk the event names. */
     cwmorlais_answer a = cwmorlais_desk_event(&v, (cwmorlais_event){.kind = READ, .desk = 99});
@@ -250,13 +250,13 @@ static void refuse_at_a_desk(void) {
     EXPECT(v.seat.slot.kind == 1 && v.seat.slot.cell == 0 && !v.seat.served);
     was = v;
     refused(12, cwmorlais_desk_event(&v, (cwmorlais_event){.kind = READ}), &was, &v);
-    refused(15, cwmorlais_desk_bring(&v, a.message), &was, &v);
+    refused(15, cwmorlais_desk_bring(&v, &a.message), &was, &v);
 
     v.row[5].word = 1; /* past the cell count: not sound */
     was = v;
     refused(9, cwmorlais_desk_event(&v, (cwmorlais_event){.kind = READ}), &was, &v);
-    refused(9, cwmorlais_desk_serve(&v, no_message), &was, &v);
-    refused(9, cwmorlais_desk_bring(&v, no_message), &was, &v);
+    refused(9, cwmorlais_desk_serve(&v, &no_message), &was, &v);
+    refused(9, cwmorlais_desk_bring(&v, &no_message), &was, &v);
 }
 
 static void refuse_write(uint32_t code, cwmorlais_message m, size_t room) {
@@ -340,9 +340,9 @@ static void measure_stack(void) {
         }
         if (e.kind == TAKE) {
             cwmorlais_record *keeper = &desk[whole_plan.keepers[r.message.cell]];
-            paint(), a = cwmorlais_desk_serve(keeper, r.message), serve = most_used(serve);
+            paint(), a = cwmorlais_desk_serve(keeper, &r.message), serve = most_used(serve);
         }
-        if (e.kind == BRING) paint(), a = cwmorlais_desk_bring(&desk[e.desk], r.message), bring = most_used(bring);
+        if (e.kind == BRING) paint(), a = cwmorlais_desk_bring(&desk[e.desk], &r.message), bring = most_used(bring);
         if (a.reply.code == 1 || e.kind == TAKE) {
             paint(), cwmorlais_frame_write(&a.message, under_way[e.desk], CWMORLAIS_FRAME_BYTES), write = most_used(write);
         }

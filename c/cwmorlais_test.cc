@@ -14,8 +14,8 @@ int main() {
     const cwmorlais_answer asked = cwmorlais_desk_event(&asker, read);
     const cwmorlais_written written = cwmorlais_frame_write(&asked.message, frame, sizeof frame);
     const cwmorlais_reading request = cwmorlais_frame_read(frame, written.used);
-    const cwmorlais_answer served = cwmorlais_desk_serve(&keeper, request.message);
-    const cwmorlais_answer brought = cwmorlais_desk_bring(&asker, served.message);
+    const cwmorlais_answer served = cwmorlais_desk_serve(&keeper, &request.message);
+    const cwmorlais_answer brought = cwmorlais_desk_bring(&asker, &served.message);
     const cwmorlais_reply told = cwmorlais_table_event(&table, read);
     const bool holds = asked.reply.code == 1 && written.used == 7 && request.used == 7 && served.reply.code == 0 && brought.reply.code == 2
         && told.code == 1;

@@ -34,7 +34,7 @@ extern "C" {
 #endif
 
 /* Stack that is enough for a call, in bytes, beside what it returns and is handed by value. c/test measures what the calls of 01's whole case touch:
- * a table's event 248, a desk's 440 to 552, a start and a set-up 304, a frame at most 128. */
+ * a table's event 248, a desk's 424 to 504, a start and a set-up 304, a frame at most 128. */
 #define CWMORLAIS_STACK_BYTES 1024
 
 /* The longest frame: 2 bytes of length, 5 of head, a word and 8 clock numbers. */
@@ -161,10 +161,10 @@ uint32_t cwmorlais_desk_start(cwmorlais_record *v, cwmorlais_plan plan, uint32_t
 cwmorlais_answer cwmorlais_desk_event(cwmorlais_record *v, cwmorlais_event e);
 
 /* A request came for a cell that this desk keeps. With code 0 the message is the answer: send it back. Refuses 9, 15. */
-cwmorlais_answer cwmorlais_desk_serve(cwmorlais_record *v, cwmorlais_message m);
+cwmorlais_answer cwmorlais_desk_serve(cwmorlais_record *v, const cwmorlais_message *m);
 
 /* The answer came to what this desk asked. Refuses 9, 13, 15. */
-cwmorlais_answer cwmorlais_desk_bring(cwmorlais_record *v, cwmorlais_message m);
+cwmorlais_answer cwmorlais_desk_bring(cwmorlais_record *v, const cwmorlais_message *m);
 
 /* ---- Frames: a message as bytes. CWMORLAIS_FRAME_BYTES are enough for any. */
 

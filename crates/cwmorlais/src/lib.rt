@@ -33,18 +33,18 @@ pub extern "C" fn cwmorlais_desk_event(v: &mut Record, e: Event) -> Answer
 
 // A request came for a cell that this desk keeps. With code 0 the message is the answer, for the desk that asked.
 #[no_mangle]
-pub extern "C" fn cwmorlais_desk_serve(v: &mut Record, m: Message) -> Answer
-    ensures { λ r. ⌜ (r ≡ answerOf (serveRule (now (v .entry)) m)) × (now (v .exit) ≡ serveRule (now (v .entry)) m .after) ⌝ }
+pub extern "C" fn cwmorlais_desk_serve(v: &mut Record, m: &Message) -> Answer
+    ensures { λ r. ⌜ (r ≡ answerOf (serveRule (now (v .entry)) (now (m .entry)))) × (now (v .exit) ≡ serveRule (now (v .entry)) (now (m .entry)) .after) ⌝ }
 {
-    desk_step::serve(v, m)
+    desk_step::serve(v, *m)
 }
 
 // The answer came to what this desk asked.
 #[no_mangle]
-pub extern "C" fn cwmorlais_desk_bring(v: &mut Record, m: Message) -> Answer
-    ensures { λ r. ⌜ (r ≡ answerOf (bringRule (now (v .entry)) m)) × (now (v .exit) ≡ bringRule (now (v .entry)) m .after) ⌝ }
+pub extern "C" fn cwmorlais_desk_bring(v: &mut Record, m: &Message) -> Answer
+    ensures { λ r. ⌜ (r ≡ answerOf (bringRule (now (v .entry)) (now (m .entry)))) × (now (v .exit) ≡ bringRule (now (v .entry)) (now (m .entry)) .after) ⌝ }
 {
-    desk_step::bring(v, m)
+    desk_step::bring(v, *m)
 }
 
 // The message whose frame the bytes start with.

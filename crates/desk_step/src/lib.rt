@@ -147,7 +147,7 @@ fn own(v: &mut Record, e: Event) -> Answer
     own_answer(kept, x, e, own_counts(v), desk, own_seat(v))
 }
 
-// The keeper takes the write of a request. It answers from what it stores: to read that back from the row would take as long as a short sweep.
+// The keeper takes the write of a request. It answers from what it stores, so that nothing just stored is read back.
 fn take_write(v: &mut Record, m: Message) -> Answer
     requires { ⌜ (m .cell < 32) × (m .kind < 3) × (now v .tray .counts .cells ≤ 32) ⌝ }
     ensures { λ r. ⌜ (r ≡ takeAnswer (now (v .entry)) m) × (now (v .exit) ≡ takeIn (now (v .entry)) m) ⌝ }

@@ -148,8 +148,9 @@ module _ {M : Type 1} (𝓤 : URA M) (H : Heap 𝓤) (A : Atoms 𝓤) (G : Given
           (flat-is 1 (α ∷ [], tt) (F .Ps) a)
           (fmOf 𝓤 H (G .laws) Ts f (Met .args (at α δ)) (Met .post (at α δ)) (λ r. H .⇛ (After r)) (sem 𝓤 H A (kept α δ)) (comes-out α δ)))))
 
-    lent-does : Does G Ts (Of T) (closed 𝓤 H A T κ q b o γ) [] f (on T F b o)
-    lent-does = record { typed = λ t a is. has-type 𝓤 H A G (F .R) (F .res t a) is; met = λ t a ask. lent-met t a (ask .0) (ask .1) }
+    -- whatever else the caller has
+    pub lent-does : (fr : List (Item 𝓤)) → Does G Ts (Of T) (closed 𝓤 H A T κ q b o γ) fr f (on T F b o)
+    lent-does fr = record { typed = λ t a is. has-type 𝓤 H A G (F .R) (F .res t a) is; met = λ t a ask. lent-met t a (ask .0) (ask .1) }
 
   -- ---- by value
   module _ (F : PlainFn) (D : Type 0) (item : D → Item 𝓤) (f : Name) (met : Triple 𝓤 (Ts .C f) (PlainMet F 𝓤 H A)) where
@@ -215,7 +216,7 @@ module _ {M : Type 1} (𝓤 : URA M) (H : Heap 𝓤) (𝓜 : Model 𝓤 H) (𝓖
   Knows f F = (κ : Lft) (q : Share) (b o : ℕ) (γ : GName) → Does G Ts (Of T) (closed 𝓤 H (𝓖 .A) T κ q b o γ) [] f (F b o)
 
   pub lent : (F : LentFn T) (f : Name) (r : Routine) → ε f ≡ r → Triple 𝓤 (𝓡 .run r) (LentMet T F 𝓤 H (𝓖 .A)) → Knows f (on T F)
-  lent F f r p met κ q b o γ = lent-does 𝓤 H (𝓖 .A) G Ts T F κ q b o γ f (at-key (LentMet T F 𝓤 H (𝓖 .A)) f r p met)
+  lent F f r p met κ q b o γ = lent-does 𝓤 H (𝓖 .A) G Ts T F κ q b o γ f (at-key (LentMet T F 𝓤 H (𝓖 .A)) f r p met) []
 
   pub valued : (F : PlainFn) (f : Name) (r : Routine) → ε f ≡ r → Triple 𝓤 (𝓡 .run r) (PlainMet F 𝓤 H (𝓖 .A)) → Knows f (λ b o. by-value (Of T) F)
   valued F f r p met κ q b o γ =

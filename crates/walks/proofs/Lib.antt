@@ -1,4 +1,5 @@
 pub mod Access
+pub mod Beside
 pub mod Branch
 pub mod Callees
 pub mod Element

@@ -129,6 +129,20 @@ pub record Lending (T E : Plain) : Type 0 where
   pub γ₁ : GName
   pub xs : List (Of E)
 
+-- a share of the memory behind a `&`, with what closes it again, and what is had of the `&` at the end
+abbrev pub shares : {M : Type 1} (𝓤 : URA M) (H : Heap 𝓤) (A : Atoms 𝓤) (T : Plain) (κ : Lft) (q₀ : Share) (b o : ℕ) (γ : GName) → Of T → Share
+    → List (Item 𝓤)
+shares 𝓤 H A T κ q₀ b o γ t q =
+    ‵ (fat q (rawTy (ty T)) b o (val T t)) ∷ ‵ (own T t (val T t ∷ [])) ∷ ‵ (fobor κ q₀ (partAt (rowOf T) q t b o)) ∷
+    ‵ (fshr-bor κ (λ s. partAt (rowOf T) s t b o)) ∷ ‵ (fres γ (coded T .code t)) ∷ []
+
+-- what is plain can be had twice
+pub twice : {M : Type 1} (𝓤 : URA M) (H : Heap 𝓤) (A : Atoms 𝓤) (G : Given 𝓤 H A) (T : Plain) → Copy 𝓤 H A (rowOf T)
+twice 𝓤 H A G T = record {
+  twice = λ x vs. qed G (‵ (own T x vs) ∷ []) ∵ pureL ! (own T x vs) (λ p. pureI ! (own T x vs) (T .facts (T .F .into x) vs) p $ frame ! $
+      pureI ! (own T x vs) (T .facts (T .F .into x) vs) p $ done !);
+}
+
 module _ {M : Type 1} (𝓤 : URA M) (H : Heap 𝓤) (A : Atoms 𝓤) {T E : Plain} (ℓ : Lending T E) where
   abbrev shared : RefT (Of T)
   shared = record { ptr = (ℓ .b₀, ℓ .o₀); name = ℓ .γ₀; now = ℓ .t }
@@ -147,12 +161,8 @@ module _ {M : Type 1} (𝓤 : URA M) (H : Heap 𝓤) (A : Atoms 𝓤) {T E : Pla
   kept none = ‵ (MutSlice (named 1) (ℓ .κ₁) (rowOf E) .own out (sliceOf ∷ [])) ⊛ ‵ (flft (ℓ .κ₁) (ℓ .q₁))
   kept (Opt.some ys) = ‵ (finally (rowOf E) (ℓ .γ₁) ys) ⊛ ‵ (flft (ℓ .κ₁) (ℓ .q₁))
 
-  -- a share of the T's memory, with what closes it again, and what is had of the `&` at the end
   abbrev pub opened : Share → List (Item 𝓤)
-  opened q =
-      ‵ (fat q (rawTy (ty T)) (ℓ .b₀) (ℓ .o₀) (val T (ℓ .t))) ∷ ‵ (own T (ℓ .t) (val T (ℓ .t) ∷ [])) ∷
-      ‵ (fobor (ℓ .κ₀) (ℓ .q₀) (partAt (rowOf T) q (ℓ .t) (ℓ .b₀) (ℓ .o₀))) ∷
-      ‵ (fshr-bor (ℓ .κ₀) (λ s. partAt (rowOf T) s (ℓ .t) (ℓ .b₀) (ℓ .o₀))) ∷ ‵ (fres (ℓ .γ₀) (coded T .code (ℓ .t))) ∷ []
+  opened = shares 𝓤 H A T (ℓ .κ₀) (ℓ .q₀) (ℓ .b₀) (ℓ .o₀) (ℓ .γ₀) (ℓ .t)
 
 -- a part of the T, which lies at the n-th place of the context: with m locals it is 2 * m + 1
 pub reads-shared : {M : Type 1} {𝓤 : URA M} {H : Heap 𝓤} {A : Atoms 𝓤} (G : Given 𝓤 H A) {T X : Plain} (p : Part T X) (t : Of T) {q : Share} {b o : ℕ}
@@ -275,13 +285,6 @@ module _ {M : Type 1} (𝓤 : URA M) (H : Heap 𝓤) (A : Atoms 𝓤) (G : Given
   abbrev hs : Stays (sharedEnded F .signature .params) (sharedEnded F .kept)
   hs = (stay-none-ref (0 ∷ []) tt (plain (λ κs. rowOf T)) yes, (gave-slice (1 ∷ []) tt (plain (λ κs. rowOf E)), tt))
 
-  -- what is plain can be had twice
-  twice : Copy 𝓤 H A (rowOf T)
-  twice = record {
-    twice = λ x vs. qed G (‵ (own T x vs) ∷ []) ∵ pureL ! (own T x vs) (λ p. pureI ! (own T x vs) (T .facts (T .F .into x) vs) p $ frame ! $
-        pureI ! (own T x vs) (T .facts (T .F .into x) vs) p $ done !);
-  }
-
   module _ (ℓ : Lending T E) where
     abbrev lfts : Lfts 2
     lfts = (ℓ .κ₀, (ℓ .κ₁, tt))
@@ -313,7 +316,7 @@ module _ {M : Type 1} (𝓤 : URA M) (H : Heap 𝓤) (A : Atoms 𝓤) (G : Given
         split ! $ move ! (2 ∷ []) $ split ! $ move ! (1 ∷ []) $ split ! $ move ! (4 ∷ []) $ split ! $ move ! (4 ∷ []) $ fsplit3 ! $ drop ! $
         -- [the last value; the shared borrow; token 1; true; the slice; true; token 0]
         move ! (1 ∷ 6 ∷ []) $
-        looks ! tt (rowOf T) (Is (rowOf T)) (shows 𝓤 H A (rowOf T)) (λ x. val T x ∷ []) (T .L .low-is) twice (ℓ .t) (ℓ .b₀) (ℓ .o₀) (λ q vs.
+        looks ! tt (rowOf T) (Is (rowOf T)) (shows 𝓤 H A (rowOf T)) (λ x. val T x ∷ []) (T .L .low-is) (twice 𝓤 H A G T) (ℓ .t) (ℓ .b₀) (ℓ .o₀) (λ q vs.
         spelt ! (rowOf T) (Is (rowOf T)) (shows 𝓤 H A (rowOf T)) (λ x. val T x ∷ []) (T .L .low-is) q (ℓ .t) vs (ℓ .b₀) (ℓ .o₀) $ move ! (1 ∷ []) $
         peeks ! (rowOf T) (Is (rowOf T)) (shows 𝓤 H A (rowOf T)) (ℓ .t) (val T (ℓ .t) ∷ []) (λ is. at-once ! $
         show ! (λ (q′ : Share). guard 𝓤 (IsOf T (ℓ .t)) (HeldAt q′ none)) q $ check ! is $

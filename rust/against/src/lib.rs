@@ -216,12 +216,12 @@ impl Part for Proved {
     }
 
     fn serve(record: &mut Record, request: &Message) -> (Reply, Message) {
-        let answer = lent(record, |record| sys::desk_serve(record, request.same()));
+        let answer = lent(record, |record| sys::desk_serve(record, &request.same()));
         answered(answer)
     }
 
     fn bring(record: &mut Record, answer: &Message) -> Reply {
-        let answer = lent(record, |record| sys::desk_bring(record, answer.same()));
+        let answer = lent(record, |record| sys::desk_bring(record, &answer.same()));
         let (reply, message) = answered(answer);
         assert_eq!(message, Message::ZERO);
         reply

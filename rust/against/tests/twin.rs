@@ -40,10 +40,10 @@ fn parts(tallies: &mut [Tally; 3], given: &Record, event: &Event, message: &Mess
     };
     let (our_event, our_message) = (event.same(), message.same());
     hold(0, &|r| sys::desk_event(r, our_event), &|r| r.event(event));
-    hold(1, &|r| sys::desk_serve(r, our_message), &|r| {
+    hold(1, &|r| sys::desk_serve(r, &our_message), &|r| {
         r.serve(message)
     });
-    hold(2, &|r| sys::desk_bring(r, our_message), &|r| {
+    hold(2, &|r| sys::desk_bring(r, &our_message), &|r| {
         (r.bring(message), Message::ZERO)
     });
 }
@@ -245,9 +245,9 @@ fn take_and_bring_are_serve_and_bring() {
         };
         let reply = sys::table_event(&mut table, event);
         let answer = if is_take {
-            sys::desk_serve(&mut record, message)
+            sys::desk_serve(&mut record, &message)
         } else {
-            sys::desk_bring(&mut record, message)
+            sys::desk_bring(&mut record, &message)
         };
         assert_eq!(reply, answer.reply, "seed {seed}");
         let after: Table = table.same();

@@ -177,7 +177,7 @@ impl Desk {
     }
 
     fn serve_message(&mut self, request: Message) -> Result<Served, Refusal> {
-        let Answer { reply, message } = sys::desk_serve(&mut self.record, request);
+        let Answer { reply, message } = sys::desk_serve(&mut self.record, &request);
         match reply.code {
             DONE => Ok(Served {
                 answer: Frame::of(message, message.desk),
@@ -188,7 +188,7 @@ impl Desk {
     }
 
     fn bring_message(&mut self, answer: Message) -> Result<Brought, Refusal> {
-        let reply = sys::desk_bring(&mut self.record, answer).reply;
+        let reply = sys::desk_bring(&mut self.record, &answer).reply;
         let told = match reply.code {
             DONE if answer.kind == WRITE_ANSWERED => Told::Stored(reply.value),
             DONE => Told::Shown(reply.value),

@@ -231,10 +231,10 @@ unsafe extern "C" {
     pub safe fn desk_event(record: &mut Record, event: Event) -> Answer;
     /// A request came for a cell that this desk keeps: 9, 15. Code 0 comes with the answer.
     #[link_name = "cwmorlais_desk_serve"]
-    pub safe fn desk_serve(record: &mut Record, request: Message) -> Answer;
+    pub safe fn desk_serve(record: &mut Record, request: &Message) -> Answer;
     /// The answer came to what this desk asked: 9, 13, 15.
     #[link_name = "cwmorlais_desk_bring"]
-    pub safe fn desk_bring(record: &mut Record, answer: Message) -> Answer;
+    pub safe fn desk_bring(record: &mut Record, answer: &Message) -> Answer;
     /// A fresh table in place of the one lent: 0, or 20, 21, 22, and the table is all zero.
     #[link_name = "cwmorlais_table_set_up"]
     pub safe fn set_up(table: &mut Table, plan: Plan) -> u32;

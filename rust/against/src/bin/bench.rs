@@ -347,7 +347,7 @@ fn records(desks: u32, cells: u32) {
             state,
             keeper,
             |record| {
-                black_box(sys::desk_serve(record, black_box(our_request)));
+                black_box(sys::desk_serve(record, black_box(&our_request)));
             },
             |record| {
                 black_box(record.serve(black_box(&request)));
@@ -369,7 +369,7 @@ fn records(desks: u32, cells: u32) {
         State::Copies,
         asker,
         |record| {
-            black_box(sys::desk_bring(record, black_box(our_answer)));
+            black_box(sys::desk_bring(record, black_box(&our_answer)));
         },
         |record| {
             black_box(record.bring(black_box(&answer)));
