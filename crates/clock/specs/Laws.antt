@@ -3,7 +3,7 @@
 use mathlib.Core.Path.{_≡_, refl, sym, _∙_}
 use mathlib.Core.Bool.{Bool, true, false}
 use mathlib.Core.List.{List, [], _∷_}
-use Prim.Native.Nat.{ℕ, zero, suc, _+_, _≤_, _<_, max}
+use Prim.Native.Nat.{ℕ, zero, suc, _+_, _≤_, _<_, max, zero-le}
 use native.Mathlib.Omega.{arith}
 use native.Mathlib.Decide.{ℕ-discrete, decLt}
 use lib.Dec.{leb, ltb}
@@ -164,3 +164,11 @@ raised-later c k h =
 
 pub raised-past : (d : ℕ) (c : Clock) (k : ℕ) → k < d → ZeroPast d c → ZeroPast d (raised c k)
 raised-past d c k h p j i = raised-other c k j (omega arith) ∙ p j i
+
+-- ---- all zeros
+-- a raised clock is not, and a merge is only if both are
+pub raised-some : (c : Clock) (k : ℕ) → k < length (c .n) → ZeroPast 0 (raised c k) → ⊥
+raised-some c k h z = omega (arith, raised-at c k h, z k zero-le)
+
+pub merge-zero : (a b : Clock) → ZeroPast 0 (merged a b) → ZeroPast 0 b
+merge-zero a b z k h = omega (arith, merge-at a b k, z k h)

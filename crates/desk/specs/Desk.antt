@@ -6,7 +6,7 @@ use Prim.Native.Nat.{ℕ, _+_}
 use lib.Dec.{ltb, eqb}
 use lib.ListN.{getD}
 use Rattle.clock.specs.declared.Clock.{Clock}
-use Rattle.clock.specs.Clock.{zeroClock, isBefore}
+use Rattle.clock.specs.Clock.{zeroClock, isBefore, isWithin}
 use Rattle.theory_lists.specs.Each.{mapAt}
 use Rattle.theory_lists.specs.Sum.{sum}
 use Rattle.desk.specs.declared.Cell.{Cell}
@@ -29,9 +29,9 @@ noWord = 0
 unfoldable pub isNoWord : Word → Bool
 isNoWord w = eqb w noWord
 
--- "A word of 0 means blank."
-unfoldable pub isBlank : Word → Clock → Bool
-isBlank word stamp = isNoWord word
+-- "a cell is blank exactly if its stamp is all zeros": of a cell, of an answered slot and of an answer. The word decides nothing.
+unfoldable pub isBlank : (stamp : Clock) → Bool
+isBlank stamp = isWithin 0 stamp
 
 -- ---- nothing, and what the language has past an array's end
 abbrev pub noCell : Cell

@@ -11,7 +11,7 @@ use lib.Dec.{eqb, lit≤}
 use lib.ListN.{length}
 use Rattle.clock.specs.declared.Clock.{Clock}
 use Rattle.clock.specs.Clock.{merged}
-use Rattle.clock.specs.Laws.{ZeroPast, zero-past, merge-past, raised-past}
+use Rattle.clock.specs.Laws.{ZeroPast, zero-past, merge-past, merge-zero, raised-past, raised-some}
 use Rattle.theory_lists.specs.Each.{places-set, places-mapAt}
 use Rattle.theory_lists.specs.Test.{fails, both-left, both-right}
 use Rattle.theory_refusals.specs.Refusals.{unless, unless-either}
@@ -23,7 +23,7 @@ use Rattle.desk.specs.declared.Seat.{Seat}
 use Rattle.desk.specs.declared.Slot.{Slot}
 use Rattle.desk.specs.declared.Step.{Step}
 use Rattle.desk.specs.declared.Tray.{Tray}
-use Rattle.desk.specs.Desk.{Word, noCell, noSlot, pastCell, cellAt, keeps, heldCell, isCopy, isLost, leftAt, leftOf, waits}
+use Rattle.desk.specs.Desk.{Word, noWord, noCell, noSlot, pastCell, cellAt, keeps, heldCell, isCopy, isLost, leftAt, leftOf, waits}
 use Rattle.desk.specs.RuleLaws.{Allowed, allowed, own-is, Served, served, Brought, brought}
 use Rattle.desk.specs.Rules.{withClock, withSlot, withSeat, holds, learns, stores, slotted, refused, readAsked, writeAsked, nextClock}
 use Rattle.desk.specs.Rules.{readRule, writeRule, dropRule, eventRefusal, eventDone, eventRule, markedServed, takes, readServed, writeServed, serveDone}
@@ -39,19 +39,19 @@ no-cell-rule t desk c e =
       used = λ q. no-way false q refl;
       keeper-holds = λ q. no-way (keeps t desk c) q e;
       stamp-past = zero-past (t .counts .desks);
-      no-word = λ _. refl;
       no-stamp = λ _. zero-past 0;
+      no-word = λ _. refl;
     }
 
 pub held-rule : (t : Tray) (desk c : ℕ) (w : Word) (k : Clock) → Used (t .counts) desk c → ZeroPast (t .counts .desks) k
-    → CellRule t desk c (heldCell w k)
-held-rule t desk c w k u p =
+    → (ZeroPast 0 k → w ≡ noWord) → CellRule t desk c (heldCell w k)
+held-rule t desk c w k u p none =
     record {
       used = λ _. u;
       keeper-holds = λ _. refl;
       stamp-past = p;
-      no-word = λ q. no-way true refl q;
       no-stamp = λ q. no-way true refl q;
+      no-word = none;
     }
 
 -- a copy that is lost was not kept here
@@ -73,8 +73,9 @@ no-slot-rule t desk =
       not-kept = λ q. no-way false q refl;
       no-cell = λ _. refl;
       clock-past = zero-past (t .counts .desks);
-      no-word = λ _. refl;
       no-clock = λ _. zero-past 0;
+      no-word = λ _. refl;
+      sent = λ q. absurd (omega arith);
     }
 
 pub asked-rule : (t : Tray) (desk c : ℕ) → Used (t .counts) desk c → keeps t desk c ≡ false → SlotRule t desk (readAsked c)
@@ -86,23 +87,26 @@ asked-rule t desk c u e =
       not-kept = λ _. e;
       no-cell = λ q. no-way true refl q;
       clock-past = zero-past (t .counts .desks);
-      no-word = λ _. refl;
       no-clock = λ _. zero-past 0;
+      no-word = λ _. refl;
+      sent = λ q. absurd (omega arith);
     }
 
 -- a slot that carries a word and a clock: a write asked, or an answer
 pub full-rule : (t : Tray) (desk : ℕ) (s : Slot) → 2 ≤ s .kind → s .kind ≤ 4 → Used (t .counts) desk (s .cell) → keeps t desk (s .cell) ≡ false
-    → ZeroPast (t .counts .desks) (s .clock) → SlotRule t desk s
+    → ZeroPast (t .counts .desks) (s .clock) → (ZeroPast 0 (s .clock) → s .word ≡ noWord) → (s .kind ≡ 2 → ZeroPast 0 (s .clock) → ⊥)
+    → SlotRule t desk s
 unfolding waits
-full-rule t desk s least most u e p =
+full-rule t desk s least most u e p none sent =
     record {
       kind-most = most;
       used = λ _. u;
       not-kept = λ _. e;
       no-cell = λ q. no-way (not (eqb (s .kind) 0)) (ap not (ne-eqb (s .kind) 0 (omega arith))) q;
       clock-past = p;
-      no-word = λ q. absurd (omega arith);
       no-clock = λ q. absurd (omega arith);
+      no-word = none;
+      sent = sent;
     }
 
 -- ---- what may happen to a row
@@ -147,17 +151,18 @@ module _ (v : Record) (there : v .desk < v .tray .counts .desks) where
             clock-row (merged (v .seat .clock) x) r (merge-past (v .tray .counts .desks) (v .seat .clock) x (clock-past r) p) .seat-is;
       }
 
-  -- a write is stored in a cell that is kept here
-  stores-row : (c : ℕ) (w : Word) → RowRule v → c < v .tray .counts .cells → RowRule (stores v c w)
-  stores-row c w r h =
-      holds-row v c (heldCell w (v .seat .clock)) r (held-rule (v .tray) (v .desk) c w (v .seat .clock) (there, h) (clock-past r))
+  -- a write is stored in a cell that is kept here, under a clock that is not all zeros
+  stores-row : (c : ℕ) (w : Word) → RowRule v → c < v .tray .counts .cells → (ZeroPast 0 (v .seat .clock) → ⊥) → RowRule (stores v c w)
+  stores-row c w r h some =
+      holds-row v c (heldCell w (v .seat .clock)) r
+      (held-rule (v .tray) (v .desk) c w (v .seat .clock) (there, h) (clock-past r) (λ z. absurd (some z)))
 
 -- ---- the three steps
 -- a cell that is not held is not kept here
 not-held : (v : Record) (c : ℕ) → RowRule v → c < length (v .row) → cellAt (v .row) c .held ≡ false → keeps (v .tray) (v .desk) c ≡ false
 not-held v c r h e = fails (keeps (v .tray) (v .desk) c) (λ q. no-way (cellAt (v .row) c .held) (r .cell-is c h .keeper-holds q) e)
 
-module _ (v : Record) (long : length (v .row) ≡ 32) (r : SoundRule v) where
+module _ (v : Record) (long : length (v .row) ≡ 32) (wide : 8 ≤ length (v .seat .clock .n)) (r : SoundRule v) where
   -- the tray and the desk stay
   still : (u : Record) → u .tray ≡ v .tray → u .desk ≡ v .desk → RowRule u → u .seat .slot .kind ≤ 2 → SoundRule u
   still u t d row asked = record { tray-is = rw t (r .tray-is); desk-is = rw (t, d) (r .desk-is); row-is = row; asked = asked }
@@ -182,17 +187,21 @@ module _ (v : Record) (long : length (v .row) ≡ 32) (r : SoundRule v) where
       next : ZeroPast (v .tray .counts .desks) (nextClock v)
       next = raised-past (v .tray .counts .desks) (v .seat .clock) (v .desk) (r .desk-is) (clock-past v (r .desk-is) (r .row-is))
 
+      -- its own number is above 0
+      some : ZeroPast 0 (nextClock v) → ⊥
+      some = raised-some (v .seat .clock) (v .desk) (omega (arith, wide, r .desk-is, r .tray-is .desks-most))
+
       go : (b : Bool) → keeps (v .tray) (v .desk) c ≡ b → SoundRule (writeRule v c w .after)
       go true e =
           let u = withSeat v (withClock (v .seat) (nextClock v)) in
           rw e
-          (still (stores u c w) refl refl (stores-row u (r .desk-is) c w (clock-row v (r .desk-is) (nextClock v) (r .row-is) next) h)
+          (still (stores u c w) refl refl (stores-row u (r .desk-is) c w (clock-row v (r .desk-is) (nextClock v) (r .row-is) next) h some)
           (r .asked))
       go false e =
           let s = writeAsked c w (nextClock v) in
           rw e
           (still (slotted v s) refl refl
-          (slotted-row v s (r .row-is) (full-rule (v .tray) (v .desk) s (lit≤ tt) (lit≤ tt) (r .desk-is, h) e next))
+          (slotted-row v s (r .row-is) (full-rule (v .tray) (v .desk) s (lit≤ tt) (lit≤ tt) (r .desk-is, h) e next (λ z. absurd (some z)) (λ _. some)))
           (lit≤ tt))
 
   drop-kept : (c : ℕ) → keeps (v .tray) (v .desk) c ≡ false → SoundRule (dropRule v c .after)
@@ -213,11 +222,12 @@ module _ (v : Record) (long : length (v .row) ≡ 32) (r : SoundRule v) where
 module _ (v : Record) (m : Message) (there : v .desk < v .tray .counts .desks) (r : RowRule v) (h : m .cell < v .tray .counts .cells)
     (p : ZeroPast (v .tray .counts .desks) (m .clock)) where
   -- a keeper that takes a write
-  pub takes-row : RowRule (takes v m)
+  pub takes-row : (ZeroPast 0 (m .clock) → ⊥) → RowRule (takes v m)
   unfolding takes
-  takes-row =
+  takes-row some =
       let u = withSeat v (markedServed (v .seat)) in
       stores-row (learns u (m .clock)) there (m .cell) (m .word) (learns-row u there (m .clock) marked p) h
+      (λ z. some (merge-zero (v .seat .clock) (m .clock) z))
     where
       on : (b : Bool) → v .seat .served ≡ b → (v .seat .served || waits (v .seat .slot)) ≡ true → waits (v .seat .slot) ≡ true
       on true e q = r .seat-is .served-waits e
@@ -230,9 +240,9 @@ module _ (v : Record) (m : Message) (there : v .desk < v .tray .counts .desks) (
           (r .seat-is .slot-is) (on (v .seat .served) refl))
 
   -- a desk that brings an answer home
-  pub brings-row : keeps (v .tray) (v .desk) (m .cell) ≡ false → RowRule (brings v m)
+  pub brings-row : keeps (v .tray) (v .desk) (m .cell) ≡ false → (ZeroPast 0 (m .clock) → m .word ≡ noWord) → RowRule (brings v m)
   unfolding brings
-  brings-row e =
+  brings-row e no-word =
       let without = holds v (m .cell) noCell in
       slotted-row (holds (learns without (m .clock)) (m .cell) (rules.brought (v .seat .served) m)) noSlot
       (holds-row (learns without (m .clock)) (m .cell) (rules.brought (v .seat .served) m)
@@ -244,10 +254,10 @@ module _ (v : Record) (m : Message) (there : v .desk < v .tray .counts .desks) (
 
       named : (b : Bool) → CellRule (v .tray) (v .desk) (m .cell) (rules.brought b m)
       named true = none
-      named false = held-rule (v .tray) (v .desk) (m .cell) (m .word) (m .clock) (there, h) p
+      named false = held-rule (v .tray) (v .desk) (m .cell) (m .word) (m .clock) (there, h) p no-word
 
 -- ---- the theorems
-module _ (v : Record) (long : length (v .row) ≡ 32) (ok : isSound v ≡ true) where
+module _ (v : Record) (long : length (v .row) ≡ 32) (wide : 8 ≤ length (v .seat .clock .n)) (ok : isSound v ≡ true) where
   abbrev r : SoundRule v
   r = sound-rule v ok
 
@@ -258,7 +268,7 @@ module _ (v : Record) (long : length (v .row) ≡ 32) (ok : isSound v ≡ true) 
 
   pub event-sound : (e : Event) → isSound (eventRule v e .after) ≡ true
   unfolding eventRule
-  event-sound e = kept (eventRefusal v e) (eventDone v e) (λ none. event-kept v long r e (allowed v e none))
+  event-sound e = kept (eventRefusal v e) (eventDone v e) (λ none. event-kept v long wide r e (allowed v e none))
 
   pub serve-sound : (m : Message) → isSound (serveRule v m .after) ≡ true
   unfolding serveRule serveDone readServed writeServed takes
@@ -269,8 +279,8 @@ module _ (v : Record) (long : length (v .row) ≡ 32) (ok : isSound v ≡ true) 
           ⊎-elim (λ k. rw (eq-eqb (m .kind) 1 k) r)
           (λ k.
           rw (ne-eqb (m .kind) 1 (omega arith))
-          (still v long r (takes v m) refl refl
-          (takes-row v m (r .desk-is) (r .row-is) (keeps-in (v .tray) (v .desk) (m .cell) (s .kept)) (s .clock)) (r .asked)))
+          (still v long wide r (takes v m) refl refl
+          (takes-row v m (r .desk-is) (r .row-is) (keeps-in (v .tray) (v .desk) (m .cell) (s .kept)) (s .clock) (s .sent k)) (r .asked)))
           (s .kind)
 
   pub bring-sound : (m : Message) → isSound (bringRule v m .after) ≡ true
@@ -280,6 +290,6 @@ module _ (v : Record) (long : length (v .row) ≡ 32) (ok : isSound v ≡ true) 
       done : Brought v m → SoundRule (brings v m)
       done b =
           let slot = r .row-is .seat-is .slot-is in
-          still v long r (brings v m) refl refl
-          (brings-row v m (r .desk-is) (r .row-is) (rw (b .cell) (slot .used (b .waiting) .1)) (b .clock) (rw (b .cell) (slot .not-kept (b .waiting))))
+          still v long wide r (brings v m) refl refl
+          (brings-row v m (r .desk-is) (r .row-is) (rw (b .cell) (slot .used (b .waiting) .1)) (b .clock) (rw (b .cell) (slot .not-kept (b .waiting))) (b .no-word))
           zero-le

@@ -41,7 +41,7 @@ abbrev pub replyOf : ℕ → Word → ℕ → Reply
 replyOf code value count = record { code = code; value = value; count = count }
 
 unfoldable pub readReply : Cell → Reply
-readReply x = cond (x .held) (replyOf (shownCode (isBlank (x .word) (x .stamp))) (x .word) 0) (replyOf 1 noWord 0)
+readReply x = cond (x .held) (replyOf (shownCode (isBlank (x .stamp))) (x .word) 0) (replyOf 1 noWord 0)
 
 unfoldable pub writeReply : Bool → Word → Reply
 writeReply kept w = cond kept (replyOf 0 w 0) (replyOf 1 noWord 0)
@@ -89,7 +89,7 @@ abbrev pub broughtCell : Bool → Word → Clock → Cell
 broughtCell served word stamp = cond served noCell (heldCell word stamp)
 
 abbrev pub broughtReply : ℕ → Word → Clock → ℕ → Reply
-broughtReply kind word stamp count = replyOf (shownCode (eqb kind 3 && isBlank word stamp)) word count
+broughtReply kind word stamp count = replyOf (shownCode (eqb kind 3 && isBlank stamp)) word count
 
 -- a copy's fate, told whether its desk keeps the cell
 abbrev pub losesIf : Bool → Clock → Cell → Bool

@@ -18,10 +18,10 @@ use Rattle.desk.specs.declared.Record.{Record}
 use Rattle.desk.specs.declared.Seat.{Seat}
 use Rattle.desk.specs.declared.Slot.{Slot}
 use Rattle.desk.specs.declared.Tray.{Tray}
-use Rattle.desk.specs.Desk.{keeps, waits, isAsked, isAnswered, answerKind, isOwn}
+use Rattle.desk.specs.Desk.{noWord, keeps, waits, isAsked, isAnswered, answerKind, isOwn}
 use Rattle.desk.specs.Rules.{seatLines, eventLines, eventRefusal, inTray, requestFits, serveLines, serveRefusal, answerFits, bringLines, bringRefusal}
-use Rattle.desk.specs.Sound.{isSound}
-use Rattle.desk.specs.SoundLaws.{sound-rule, keeps-in, no-way}
+use Rattle.desk.specs.Sound.{wordFits, sentFits, isSound}
+use Rattle.desk.specs.SoundLaws.{word-rule, sent-rule, sound-rule, keeps-in, no-way}
 
 -- ---- tests
 either-is : (a b : Bool) → (a || b) ≡ true → (a ≡ true) ⊎ (b ≡ true)
@@ -123,6 +123,7 @@ pub record Served (v : Record) (m : Message) : Type 0 where
   pub desk : m .desk < v .tray .counts .desks
   pub other : m .desk ≡ v .desk → ⊥
   pub kept : keeps (v .tray) (v .desk) (m .cell) ≡ true
+  pub sent : m .kind ≡ 2 → ZeroPast 0 (m .clock) → ⊥
 
 pub served : (v : Record) (m : Message) → serveRefusal v m ≡ 0 → Served v m
 unfolding serveLines requestFits inTray numbersFrom testOf
@@ -136,6 +137,7 @@ served v m p =
       desk = ltb-true (m .desk) (v .tray .counts .desks) (search (both-left, both-right));
       other = eqb-false (m .desk) (v .desk) (not-true (eqb (m .desk) (v .desk)) (search (both-left, both-right)));
       kept = search (both-left, both-right);
+      sent = sent-rule (m .kind) (m .clock) (search (both-left, both-right));
     }
 
 -- ---- an answer
@@ -146,6 +148,7 @@ pub record Brought (v : Record) (m : Message) : Type 0 where
   pub desk : m .desk ≡ v .desk
   pub cell : m .cell ≡ v .seat .slot .cell
   pub kind : m .kind ≡ answerKind (v .seat .slot .kind)
+  pub no-word : ZeroPast 0 (m .clock) → m .word ≡ noWord
 
 pub brought : (v : Record) (m : Message) → bringRefusal v m ≡ 0 → Brought v m
 unfolding bringLines answerFits inTray numbersFrom testOf
@@ -159,6 +162,7 @@ brought v m p =
       desk = eqb-true (m .desk) (v .desk) (search (both-left, both-right));
       cell = eqb-true (m .cell) (v .seat .slot .cell) (search (both-left, both-right));
       kind = eqb-true (m .kind) (answerKind (v .seat .slot .kind)) (search (both-left, both-right));
+      no-word = word-rule (m .word) (m .clock) (search (both-left, both-right));
     }
 
 -- ---- so every place that is named is there

@@ -21,7 +21,7 @@ use Rattle.desk.specs.declared.Step.{Step}
 use Rattle.desk.specs.declared.Tray.{Tray}
 use Rattle.desk.specs.Desk.{Word, noWord, isBlank, noCell, noSlot, noMessage, cellAt, oneIf, keeps, heldCell, isCopy, leftOf, lossOf}
 use Rattle.desk.specs.Desk.{waits, isAsked, isAnswered, answerKind, answersAsked, isOwn}
-use Rattle.desk.specs.Sound.{isSound}
+use Rattle.desk.specs.Sound.{wordFits, sentFits, isSound}
 
 -- ---- what may happen to a seat and to a record; every other field stays
 abbrev pub withClock : Seat → Clock → Seat
@@ -91,7 +91,7 @@ writeAsked c w sent = record { kind = 2; cell = c; word = w; clock = sent }
 unfoldable pub readRule : Record → ℕ → Step
 readRule v c =
     cond (cellAt (v .row) c .held)
-    (replied (shownCode (isBlank (cellAt (v .row) c .word) (cellAt (v .row) c .stamp))) (cellAt (v .row) c .word) 0 noMessage v)
+    (replied (shownCode (isBlank (cellAt (v .row) c .stamp))) (cellAt (v .row) c .word) 0 noMessage v)
     (asks v (readAsked c))
 
 -- "the desk's clock with its own number one higher"
@@ -144,10 +144,11 @@ eventRule v e = unless (eventRefusal v e) (refused v) (eventDone v e)
 unfoldable pub inTray : Tray → Message → Bool
 inTray t m = eqb (m .desks) (t .counts .desks) && isWithin (t .counts .desks) (m .clock)
 
--- "a request by another desk below the count for a cell kept here"
+-- "a request by another desk below the count for a cell kept here"; a write's clock is not all zeros
 unfoldable pub requestFits : Tray → ℕ → Message → Bool
 requestFits t desk m =
     inTray t m
+    && sentFits (m .kind) (m .clock)
     && (eqb (m .kind) 1 || eqb (m .kind) 2)
     && (ltb (m .desk) (t .counts .desks) && not (eqb (m .desk) desk))
     && keeps t desk (m .cell)
@@ -185,9 +186,9 @@ unfoldable pub serveRule : Record → Message → Step
 serveRule v m = unless (serveRefusal v m) (refused v) (serveDone v m)
 
 -- ---- bring: the desk receives its answer
--- "an answer whose desk, cell and kind (read or write) are those asked"
+-- "an answer whose desk, cell and kind (read or write) are those asked"; it has word 0 where its stamp is all zeros
 unfoldable pub answerFits : Tray → ℕ → Slot → Message → Bool
-answerFits t desk s m = inTray t m && (eqb (m .desk) desk && eqb (m .cell) (s .cell) && answersAsked (s .kind) (m .kind))
+answerFits t desk s m = inTray t m && wordFits (m .word) (m .clock) && (eqb (m .desk) desk && eqb (m .cell) (s .cell) && answersAsked (s .kind) (m .kind))
 
 -- "If *served* is off, the named cell is now held with the answer's word and stamp; if on, it is not held"
 abbrev pub brought : Bool → Message → Cell
@@ -200,7 +201,7 @@ brings v m = slotted (holds (learns (holds v (m .cell) noCell) (m .clock)) (m .c
 -- "Value is the word; code 0, or 2 for a read" of blank
 unfoldable pub bringDone : Record → Message → Step
 bringDone v m =
-    replied (shownCode (eqb (m .kind) 3 && isBlank (m .word) (m .clock))) (m .word)
+    replied (shownCode (eqb (m .kind) 3 && isBlank (m .clock))) (m .word)
     (lossOf (v .tray) (v .desk) (m .clock) (set (v .row) (m .cell) noCell)) noMessage (brings v m)
 
 unfoldable pub bringLines : Bool → Tray → ℕ → Seat → Message → List Line

@@ -1,11 +1,14 @@
--- Whatever a desk does, its record stays the record of the same desk: the tray, the desk's number and the length of its row. And an answer
--- names its request.
+-- Whatever a desk does, its record stays the record of the same desk: the tray, the desk's number and the length of its row; and its clock
+-- loses no number. And an answer names its request.
 -- Assumes nothing.
 use mathlib.Core.Path.{_≡_, refl, _∙_}
-use Prim.Native.Nat.{ℕ}
+use Prim.Native.Nat.{ℕ, _+_, _≤_}
+use native.Mathlib.Omega.{arith}
 use lib.Dec.{eqb}
 use lib.ListN.{length, length-set}
 use Rattle.clock.specs.declared.Clock.{Clock}
+use Rattle.clock.specs.Clock.{number, raised}
+use Rattle.clock.specs.Laws.{merge-length}
 use Rattle.theory_lists.specs.Each.{length-mapAt}
 use Rattle.theory_lists.specs.Test.{whichever}
 use Rattle.desk.specs.declared.Event.{Event}
@@ -85,6 +88,33 @@ module _ (v : Record) where
   pub bring-same : (m : Message) → SameDesk v (bringDone v m .after)
   unfolding bringDone
   bring-same m = brings-same m
+
+-- ---- its clock
+abbrev Numbers : Record → ℕ
+Numbers v = length (v .seat .clock .n)
+
+module _ (v : Record) where
+  abbrev Longer : Step → Type 0
+  Longer s = Numbers v ≤ Numbers (s .after)
+
+  pub event-longer : (e : Event) → Longer (eventDone v e)
+  unfolding eventDone readRule writeRule dropRule raised
+  event-longer e =
+      whichever Longer (eqb (e .kind) 1) (readRule v (e .cell)) _
+      (whichever Longer (cellAt (v .row) (e .cell) .held) _ _ (omega arith) (omega arith))
+      (whichever Longer (eqb (e .kind) 2) (writeRule v (e .cell) (e .word)) (dropRule v (e .cell))
+      (whichever Longer (keeps (v .tray) (v .desk) (e .cell)) _ _
+      (omega (arith, length-set (v .seat .clock .n) (v .desk) (number (v .seat .clock) (v .desk) + 1))) (omega arith))
+      (omega arith))
+
+  pub serve-longer : (m : Message) → Longer (serveDone v m)
+  unfolding serveDone readServed writeServed takes
+  serve-longer m =
+      whichever Longer (eqb (m .kind) 1) (readServed v m) (writeServed v m) (omega arith) (omega (arith, merge-length (v .seat .clock) (m .clock)))
+
+  pub bring-longer : (m : Message) → Longer (bringDone v m)
+  unfolding bringDone brings
+  bring-longer m = omega (arith, merge-length (v .seat .clock) (m .clock))
 
 -- ---- an answer
 pub record Answers (v : Record) (m : Message) (s : Step) : Type 0 where

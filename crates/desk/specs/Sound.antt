@@ -4,6 +4,7 @@
 use mathlib.Core.Bool.{Bool, not, _&&_, _||_, cond}
 use Prim.Native.Nat.{ℕ}
 use lib.Dec.{ltb, leb, eqb}
+use Rattle.clock.specs.declared.Clock.{Clock}
 use Rattle.clock.specs.Clock.{isWithin}
 use Rattle.theory_lists.specs.Each.{mapAt}
 use Rattle.theory_lists.specs.Test.{every}
@@ -14,7 +15,7 @@ use Rattle.desk.specs.declared.Record.{Record}
 use Rattle.desk.specs.declared.Seat.{Seat}
 use Rattle.desk.specs.declared.Slot.{Slot}
 use Rattle.desk.specs.declared.Tray.{Tray}
-use Rattle.desk.specs.Desk.{isNoWord, placeAt, isUsed, keepsAt, keeps, waits}
+use Rattle.desk.specs.Desk.{Word, isNoWord, isBlank, placeAt, isUsed, keepsAt, keeps, waits}
 
 -- "counts are in range"
 unfoldable pub countsSound : Counts → Bool
@@ -27,10 +28,18 @@ placeSound n c p = cond (ltb c (n .cells)) (ltb (p .keeper) (n .desks)) (eqb (p 
 unfoldable pub traySound : Tray → Bool
 traySound t = countsSound (t .counts) && every (mapAt (placeSound (t .counts)) (t .places))
 
+-- "word 0 wherever a cell's or slot's stamp is all zeros"
+unfoldable pub wordFits : Word → (stamp : Clock) → Bool
+wordFits word stamp = not (isBlank stamp) || isNoWord word
+
+-- "no write-asked clock is all zeros"
+unfoldable pub sentFits : (kind : ℕ) → Clock → Bool
+sentFits kind sent = not (eqb kind 2 && isBlank sent)
+
 -- a held cell is used, and its stamp has zeros past the desk count; one that is not held is not kept here and is all zero
 unfoldable pub cellFits : Counts → Place → ℕ → ℕ → Cell → Bool
 cellFits n p desk c x =
-    cond (x .held) (isUsed n desk c && isWithin (n .desks) (x .stamp))
+    cond (x .held) (isUsed n desk c && isWithin (n .desks) (x .stamp) && wordFits (x .word) (x .stamp))
     (not (keepsAt n p desk c) && isNoWord (x .word) && isWithin 0 (x .stamp))
 
 unfoldable pub cellSound : Tray → ℕ → ℕ → Cell → Bool
@@ -42,7 +51,9 @@ slotNames t desk s = cond (waits s) (isUsed (t .counts) desk (s .cell) && not (k
 
 -- an empty slot and a read asked lack word and clock
 unfoldable pub slotCarries : Counts → Slot → Bool
-slotCarries n s = cond (leb (s .kind) 1) (isNoWord (s .word) && isWithin 0 (s .clock)) (isWithin (n .desks) (s .clock))
+slotCarries n s =
+    cond (leb (s .kind) 1) (isNoWord (s .word) && isWithin 0 (s .clock)) (isWithin (n .desks) (s .clock) && wordFits (s .word) (s .clock))
+    && sentFits (s .kind) (s .clock)
 
 -- asked or answered
 unfoldable pub slotSound : Tray → ℕ → Slot → Bool

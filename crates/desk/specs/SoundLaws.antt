@@ -1,12 +1,12 @@
 -- Soundness as a rule at each place: the test gives it, and it gives the test back.
 -- Assumes nothing.
 use mathlib.Core.Path.{_≡_, refl, ap}
-use mathlib.Core.Bool.{Bool, true, false, not, _&&_, _||_, or-true}
+use mathlib.Core.Bool.{Bool, true, false, not, _&&_, _||_, cond, or-true}
 use Prim.Native.Nat.{ℕ, _≤_, _<_, zero-le}
 use native.Mathlib.Decide.{decLe, decLt}
 use native.Mathlib.Omega.{arith}
 use borrow.Author.Tests.{ltb-true, leb-true, eqb-true, lt-ltb, le-ltb, le-leb, lt-leb, eq-eqb, not-true}
-use lib.Dec.{ltb, eqb}
+use lib.Dec.{ltb, leb, eqb}
 use lib.ListN.{length}
 use Rattle.clock.specs.declared.Clock.{Clock}
 use Rattle.clock.specs.Clock.{isWithin}
@@ -18,8 +18,8 @@ use Rattle.desk.specs.declared.Record.{Record}
 use Rattle.desk.specs.declared.Seat.{Seat}
 use Rattle.desk.specs.declared.Slot.{Slot}
 use Rattle.desk.specs.declared.Tray.{Tray}
-use Rattle.desk.specs.Desk.{Word, noWord, isNoWord, noPlace, pastCell, cellAt, placeAt, keeperOf, isUsed, keeps, waits}
-use Rattle.desk.specs.Sound.{countsSound, placeSound, traySound, cellFits, cellSound, slotNames, slotCarries, slotSound}
+use Rattle.desk.specs.Desk.{Word, noWord, isNoWord, isBlank, noPlace, pastCell, cellAt, placeAt, keeperOf, isUsed, keeps, waits}
+use Rattle.desk.specs.Sound.{countsSound, placeSound, traySound, wordFits, sentFits, cellFits, cellSound, slotNames, slotCarries, slotSound}
 use Rattle.desk.specs.Sound.{numbersOf, seatSound, cellsSound, isSound}
 
 pub no-way : {A : Type 0} (b : Bool) → b ≡ true → b ≡ false → A
@@ -33,6 +33,40 @@ no-word-is w = eqb-true w noWord
 pub is-no-word : (w : Word) → w ≡ noWord → isNoWord w ≡ true
 unfolding isNoWord
 is-no-word w = eq-eqb w noWord
+
+-- ---- blank
+pub blank-is : (k : Clock) → isBlank k ≡ true → ZeroPast 0 k
+unfolding isBlank
+blank-is k = within-past 0 k
+
+pub is-blank : (k : Clock) → ZeroPast 0 k → isBlank k ≡ true
+unfolding isBlank
+is-blank k = past-within 0 k
+
+-- "word 0 wherever a stamp is all zeros"
+pub word-rule : (w : Word) (k : Clock) → wordFits w k ≡ true → ZeroPast 0 k → w ≡ noWord
+unfolding wordFits
+word-rule w k e z = no-word-is w (rw (is-blank k z) at e)
+
+pub rule-word : (w : Word) (k : Clock) → (ZeroPast 0 k → w ≡ noWord) → wordFits w k ≡ true
+unfolding wordFits
+rule-word w k p = go (isBlank k) refl
+  where
+    go : (b : Bool) → isBlank k ≡ b → (not b || isNoWord w) ≡ true
+    go true e = is-no-word w (p (blank-is k e))
+    go false e = refl
+
+-- "no write-asked clock is all zeros"
+pub sent-rule : (kind : ℕ) (k : Clock) → sentFits kind k ≡ true → kind ≡ 2 → ZeroPast 0 k → ⊥
+unfolding sentFits
+sent-rule kind k e two z = no-way (sentFits kind k) e (rw (eq-eqb kind 2 two, is-blank k z))
+
+pub rule-sent : (kind : ℕ) (k : Clock) → (kind ≡ 2 → ZeroPast 0 k → ⊥) → sentFits kind k ≡ true
+unfolding sentFits
+rule-sent kind k p =
+    ap not
+    (fails (eqb kind 2 && isBlank k)
+    (λ e. p (eqb-true kind 2 (both-left (eqb kind 2) (isBlank k) e)) (blank-is k (both-right (eqb kind 2) (isBlank k) e))))
 
 -- ---- the tray
 pub record TrayRule (t : Tray) : Type 0 where
@@ -102,8 +136,8 @@ pub record CellRule (t : Tray) (desk c : ℕ) (x : Cell) : Type 0 where
   pub used : x .held ≡ true → Used (t .counts) desk c
   pub keeper-holds : keeps t desk c ≡ true → x .held ≡ true
   pub stamp-past : ZeroPast (t .counts .desks) (x .stamp)
-  pub no-word : x .held ≡ false → x .word ≡ noWord
   pub no-stamp : x .held ≡ false → ZeroPast 0 (x .stamp)
+  pub no-word : ZeroPast 0 (x .stamp) → x .word ≡ noWord
 
 pub cell-rule : (t : Tray) (desk c : ℕ) (x : Cell) → cellSound t desk c x ≡ true → CellRule t desk c x
 unfolding cellSound cellFits keeps
@@ -111,13 +145,13 @@ cell-rule t desk c x e = go (x .held) refl
   where
     go : (h : Bool) → x .held ≡ h → CellRule t desk c x
     go true p =
-        let held : (isUsed (t .counts) desk c && isWithin (t .counts .desks) (x .stamp)) ≡ true = rw p at e in
+        let held : (isUsed (t .counts) desk c && isWithin (t .counts .desks) (x .stamp) && wordFits (x .word) (x .stamp)) ≡ true = rw p at e in
         record {
           used = λ _. used-is (t .counts) desk c (search (both-left, both-right));
           keeper-holds = λ _. p;
           stamp-past = within-past (t .counts .desks) (x .stamp) (search (both-left, both-right));
-          no-word = λ q. no-way (x .held) p q;
           no-stamp = λ q. no-way (x .held) p q;
+          no-word = word-rule (x .word) (x .stamp) (search (both-left, both-right));
         }
     go false p =
         let none : (not (keeps t desk c) && isNoWord (x .word) && isWithin 0 (x .stamp)) ≡ true = rw p at e in
@@ -126,8 +160,8 @@ cell-rule t desk c x e = go (x .held) refl
           used = λ q. no-way (x .held) q p;
           keeper-holds = λ q. no-way (keeps t desk c) q (not-true (keeps t desk c) (search (both-left, both-right)));
           stamp-past = λ k _. zeros k zero-le;
-          no-word = λ _. no-word-is (x .word) (search (both-left, both-right));
           no-stamp = λ _. zeros;
+          no-word = λ _. no-word-is (x .word) (search (both-left, both-right));
         }
 
 pub rule-cell : (t : Tray) (desk c : ℕ) (x : Cell) → CellRule t desk c x → cellSound t desk c x ≡ true
@@ -135,10 +169,13 @@ unfolding cellSound cellFits keeps
 rule-cell t desk c x r = go (x .held) refl
   where
     go : (h : Bool) → x .held ≡ h → cellSound t desk c x ≡ true
-    go true p = rw p (both (is-used (t .counts) desk c (r .used p)) (past-within (t .counts .desks) (x .stamp) (r .stamp-past)))
+    go true p =
+        rw p
+        (both (both (is-used (t .counts) desk c (r .used p)) (past-within (t .counts .desks) (x .stamp) (r .stamp-past)))
+        (rule-word (x .word) (x .stamp) (r .no-word)))
     go false p =
         rw p
-        (both (both (ap not (fails (keeps t desk c) (λ q. no-way (x .held) (r .keeper-holds q) p))) (is-no-word (x .word) (r .no-word p)))
+        (both (both (ap not (fails (keeps t desk c) (λ q. no-way (x .held) (r .keeper-holds q) p))) (is-no-word (x .word) (r .no-word (r .no-stamp p))))
         (past-within 0 (x .stamp) (r .no-stamp p)))
 
 -- ---- a slot
@@ -148,8 +185,9 @@ pub record SlotRule (t : Tray) (desk : ℕ) (s : Slot) : Type 0 where
   pub not-kept : waits s ≡ true → keeps t desk (s .cell) ≡ false
   pub no-cell : waits s ≡ false → s .cell ≡ 0
   pub clock-past : ZeroPast (t .counts .desks) (s .clock)
-  pub no-word : s .kind ≤ 1 → s .word ≡ noWord
   pub no-clock : s .kind ≤ 1 → ZeroPast 0 (s .clock)
+  pub no-word : ZeroPast 0 (s .clock) → s .word ≡ noWord
+  pub sent : s .kind ≡ 2 → ZeroPast 0 (s .clock) → ⊥
 
 pub slot-rule : (t : Tray) (desk : ℕ) (s : Slot) → slotSound t desk s ≡ true → SlotRule t desk s
 unfolding slotSound slotNames slotCarries
@@ -165,17 +203,25 @@ slot-rule t desk s e =
           λ k h.
           elim (decLe (s .kind) 1) [
             | yes l ↦ no-clock l k zero-le
-            | no l ↦ within-past (t .counts .desks) (s .clock) (rw (lt-leb (s .kind) 1 (omega arith)) at carries) k h
+            | no l ↦ within-past (t .counts .desks) (s .clock) (both-left (isWithin (t .counts .desks) (s .clock)) (wordFits (s .word) (s .clock)) (full (omega arith))) k h
           ];
-      no-word = λ l. no-word-is (s .word) (both-left (isNoWord (s .word)) (isWithin 0 (s .clock)) (rw (le-leb (s .kind) 1 l) at carries));
       no-clock = no-clock;
+      no-word =
+          elim (decLe (s .kind) 1) [
+            | yes l ↦ λ _. no-word-is (s .word) (both-left (isNoWord (s .word)) (isWithin 0 (s .clock)) (rw (le-leb (s .kind) 1 l) at carries))
+            | no l ↦ word-rule (s .word) (s .clock) (both-right (isWithin (t .counts .desks) (s .clock)) (wordFits (s .word) (s .clock)) (full (omega arith)))
+          ];
+      sent = sent-rule (s .kind) (s .clock) (search (both-left, both-right));
     }
   where
     names : slotNames t desk s ≡ true
     names = search (both-left, both-right)
 
-    carries : slotCarries (t .counts) s ≡ true
+    carries : cond (leb (s .kind) 1) (isNoWord (s .word) && isWithin 0 (s .clock)) (isWithin (t .counts .desks) (s .clock) && wordFits (s .word) (s .clock)) ≡ true
     carries = search (both-left, both-right)
+
+    full : 1 < s .kind → (isWithin (t .counts .desks) (s .clock) && wordFits (s .word) (s .clock)) ≡ true
+    full l = rw (lt-leb (s .kind) 1 l) at carries
 
     no-clock : s .kind ≤ 1 → ZeroPast 0 (s .clock)
     no-clock l = within-past 0 (s .clock) (both-right (isNoWord (s .word)) (isWithin 0 (s .clock)) (rw (le-leb (s .kind) 1 l) at carries))
@@ -191,9 +237,14 @@ rule-slot t desk s r = both (both (le-leb (s .kind) 4 (r .kind-most)) (names (wa
     carries : slotCarries (t .counts) s ≡ true
     carries =
         elim (decLe (s .kind) 1) [
-          | yes l ↦ rw (le-leb (s .kind) 1 l) (both (is-no-word (s .word) (r .no-word l)) (past-within 0 (s .clock) (r .no-clock l)))
-          | no l ↦ rw (lt-leb (s .kind) 1 (omega arith)) (past-within (t .counts .desks) (s .clock) (r .clock-past))
+          | yes l ↦ rw (le-leb (s .kind) 1 l)
+              (both (both (is-no-word (s .word) (r .no-word (r .no-clock l))) (past-within 0 (s .clock) (r .no-clock l))) sent)
+          | no l ↦ rw (lt-leb (s .kind) 1 (omega arith))
+              (both (both (past-within (t .counts .desks) (s .clock) (r .clock-past)) (rule-word (s .word) (s .clock) (r .no-word))) sent)
         ]
+      where
+        sent : sentFits (s .kind) (s .clock) ≡ true
+        sent = rule-sent (s .kind) (s .clock) (r .sent)
 
 -- ---- what a desk has beside its cells
 pub record SeatRule (t : Tray) (desk : ℕ) (s : Seat) : Type 0 where

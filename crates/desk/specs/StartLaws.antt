@@ -90,7 +90,7 @@ module _ (t : Tray) (desk : ℕ) where
     alone-rule c = go (keeps t desk c) refl
       where
         go : (b : Bool) → keeps t desk c ≡ b → CellRule t desk c (heldIf b)
-        go true e = held-rule t desk c _ _ (there c e, keeps-in t desk c e) (zero-past (t .counts .desks))
+        go true e = held-rule t desk c _ _ (there c e, keeps-in t desk c e) (zero-past (t .counts .desks)) (λ _. refl)
         go false e = no-cell-rule t desk c e
 
     pub fresh-row : RowRule (freshRecord t desk)

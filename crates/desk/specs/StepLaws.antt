@@ -86,7 +86,7 @@ read-told : (v : Record) (c : ℕ) → Told (readRule v c)
 unfolding readRule
 read-told v c =
     let x = cellAt (v .row) c in
-    let blank = isBlank (x .word) (x .stamp) in
+    let blank = isBlank (x .stamp) in
     whichever Told (x .held) (replied (shownCode blank) (x .word) 0 noMessage v) (asks v (readAsked c))
     (quiet-told (shownCode blank) (x .word) 0 v (neither blank 2 0 (omega arith) (omega arith)))
     (asks-told v (readAsked c))

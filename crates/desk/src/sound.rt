@@ -1,12 +1,13 @@
-// Whether a tray is sound, and small tests on a slot, a word and a place.
+// Whether a tray is sound, and small tests on a slot, a word, a stamp and a place.
 ghost use mathlib.Core.Path.{_≡_};
 ghost use Prim.Native.Nat.{_<_};
-ghost use Rattle.desk.specs.Desk.{isNoWord, keepsAt, keeps as keeps·def, waits as waits·def};
-ghost use Rattle.desk.specs.Sound.{placeSound, traySound};
+ghost use Rattle.desk.specs.Desk.{isNoWord, isBlank, keepsAt, keeps as keeps·def, waits as waits·def};
+ghost use Rattle.desk.specs.Sound.{wordFits, sentFits, placeSound, traySound};
 use crate::Counts;
 use crate::Place;
 use crate::Slot;
 use crate::Tray;
+use clock::Clock;
 
 pub fn waits(s: Slot) -> bool
     ensures { λ r. ⌜ r ≡ waits·def s ⌝ }
@@ -14,10 +15,31 @@ pub fn waits(s: Slot) -> bool
     s.kind != 0
 }
 
-pub fn is_no_word(word: u32) -> bool
+fn is_no_word(word: u32) -> bool
     ensures { λ r. ⌜ r ≡ isNoWord word ⌝ }
 {
     word == 0
+}
+
+// Whether a stamp is one that no write has: all zeros.
+pub fn is_blank(stamp: Clock) -> bool
+    ensures { λ r. ⌜ r ≡ isBlank stamp ⌝ }
+{
+    stamp.within(0)
+}
+
+// Word 0 wherever the stamp is all zeros.
+pub fn word_fits(word: u32, stamp: Clock) -> bool
+    ensures { λ r. ⌜ r ≡ wordFits word stamp ⌝ }
+{
+    !is_blank(stamp) | is_no_word(word)
+}
+
+// No write is asked under a clock that is all zeros.
+pub fn sent_fits(kind: u8, sent: Clock) -> bool
+    ensures { λ r. ⌜ r ≡ sentFits kind sent ⌝ }
+{
+    !((kind == 2) & is_blank(sent))
 }
 
 // Whether the desk keeps cell c, whose place is p.

@@ -3,7 +3,7 @@ ghost use mathlib.Core.Path.{_≡_};
 ghost use Prim.Native.Nat.{_+_, _*_, _<_};
 ghost use lib.Dec.{eqb};
 ghost use Rattle.clock.specs.Clock.{number, raised};
-ghost use Rattle.desk.specs.Desk.{heldCell, isBlank, oneIf, answerKind};
+ghost use Rattle.desk.specs.Desk.{heldCell, oneIf, answerKind};
 ghost use Rattle.desk.specs.Parts.{changeOf, askedFor, askingSeat, raisedSeat, readReply, writeReply, ownReply, tookSeat, answeredSeat, homeSeat, broughtCell, broughtReply, replyOf, losesIf};
 ghost use Rattle.desk.specs.Parts.{refusedAnswer, askedMessage, ownAnswer, servedAnswer, broughtAnswer};
 ghost use Rattle.desk.specs.Rules.{shownCode, refusedReply, placeLines};
@@ -18,7 +18,7 @@ use desk::Place;
 use desk::Reply;
 use desk::Seat;
 use desk::Slot;
-use desk::sound::is_no_word;
+use desk::sound::is_blank;
 use desk::sound::waits;
 
 // Where desk d's cell c stands in a table.
@@ -27,12 +27,6 @@ pub fn at(d: usize, c: usize) -> usize
     ensures { λ r. ⌜ r ≡ d * 32 + c ⌝ }
 {
     d * 32 + c
-}
-
-fn is_blank(word: u32, stamp: Clock) -> bool
-    ensures { λ r. ⌜ r ≡ isBlank word stamp ⌝ }
-{
-    is_no_word(word)
 }
 
 fn shown_code(blank: bool) -> u32
@@ -95,7 +89,7 @@ fn read_reply(x: Cell) -> Reply
 {
     if x.held {
         return Reply {
-            code: shown_code(is_blank(x.word, x.stamp)),
+            code: shown_code(is_blank(x.stamp)),
             value: x.word,
             count: 0,
         };
@@ -259,7 +253,7 @@ pub fn home(s: Seat, stamp: Clock) -> Seat
 pub fn bring_reply(kind: u8, word: u32, stamp: Clock, count: u32) -> Reply
     ensures { λ r. ⌜ r ≡ broughtReply kind word stamp count ⌝ }
 {
-    let blank = (kind == 3) & is_blank(word, stamp);
+    let blank = (kind == 3) & is_blank(stamp);
     Reply {
         code: shown_code(blank),
         value: word,

@@ -11,7 +11,9 @@ use desk::Seat;
 use desk::Slot;
 use desk::Tray;
 use desk::sound::keeps;
+use desk::sound::sent_fits;
 use desk::sound::waits;
+use desk::sound::word_fits;
 use desk_acts::answer_kind;
 use desk_refusals::is_own;
 use desk_refusals::seat_refusal;
@@ -77,6 +79,7 @@ fn request_fits(t: Tray, desk: u8, m: Message) -> bool
     }
     let c = m.cell as usize;
     in_tray(t, m)
+        & sent_fits(m.kind, m.clock)
         & ((m.kind == 1) | (m.kind == 2))
         & ((m.desk < n.desks) & (m.desk != desk))
         & keeps(t, desk, c)
@@ -87,5 +90,7 @@ fn answer_fits(t: Tray, desk: u8, s: Slot, m: Message) -> bool
     ensures { λ r. ⌜ r ≡ answerFits t desk s m ⌝ }
 {
     let kind = answer_kind(s.kind);
-    in_tray(t, m) & ((m.desk == desk) & (m.cell == s.cell) & (m.kind == kind))
+    in_tray(t, m)
+        & word_fits(m.word, m.clock)
+        & ((m.desk == desk) & (m.cell == s.cell) & (m.kind == kind))
 }

@@ -1,7 +1,7 @@
 -- What one more cell or clock adds to the test of a sum: its own soundness.
 -- Assumes nothing.
 use mathlib.Core.Path.{_≡_, refl, sym, ap, ap₂, _∙_}
-use mathlib.Core.Bool.{Bool, true, false, not, _&&_, and-assoc, and-comm, and-true, and-false}
+use mathlib.Core.Bool.{Bool, true, false, not, _&&_, and-assoc, and-comm, and-true, and-false, Bool·not-not}
 use Prim.Native.Nat.{ℕ, _+_, _-_, _≤_}
 use native.Mathlib.Omega.{arith}
 use lib.Bits.{bitOr}
@@ -19,7 +19,7 @@ use Rattle.desk.specs.declared.Cell.{Cell}
 use Rattle.desk.specs.declared.Counts.{Counts}
 use Rattle.desk.specs.declared.Place.{Place}
 use Rattle.desk.specs.Desk.{Word, isNoWord, oneIf, isUsed, keepsAt, keptBy}
-use Rattle.desk.specs.Sound.{cellFits}
+use Rattle.desk.specs.Sound.{wordFits, cellFits}
 use Rattle.desk_sums.specs.declared.Sum.{Sum}
 use Rattle.desk_sums.specs.Sums.{noSum, joined, orPast, addClock, noted, restOf, addKept, sumFits, clockFits, restFits, keptFits}
 
@@ -113,11 +113,17 @@ pub clock-adds : (s : Sum) (carried : Bool) (c : Clock) (word : Word) (desks : �
     → sumFits (addClock s carried c word) desks ≡ (sumFits s desks && clockFits desks carried c word)
 unfolding addClock clockFits isNoWord
 clock-adds s true c word desks =
-    fits-is (addClock s true c word) desks
+    noted-adds over (not (wordFits word c)) desks
+    ∙ ap (λ (x : Bool). x && not (not (wordFits word c)))
+    (fits-is over desks
     ∙ ap (λ (x : Bool). eqb (s .w) 0 && (isWithin 0 (s .z) && x)) (joined-within desks (s .h) c)
     ∙ out (eqb (s .w) 0) (isWithin 0 (s .z)) (isWithin desks (s .h)) (isWithin desks c)
-    ∙ ap (λ (x : Bool). x && isWithin desks c) (sym (fits-is s desks))
+    ∙ ap (λ (x : Bool). x && isWithin desks c) (sym (fits-is s desks)))
+    ∙ rw (Bool·not-not (wordFits word c)) (and-assoc (sumFits s desks) (isWithin desks c) (wordFits word c))
   where
+    over : Sum
+    over = record { h = joined (s .h) c; z = s .z; w = s .w }
+
     out : (w z h x : Bool) → (w && (z && (h && x))) ≡ (w && (z && h) && x)
     out w z h x = simp and-assoc
 clock-adds s false c word desks =

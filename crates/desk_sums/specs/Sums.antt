@@ -15,7 +15,7 @@ use Rattle.desk.specs.declared.Seat.{Seat}
 use Rattle.desk.specs.declared.Slot.{Slot}
 use Rattle.desk.specs.declared.Tray.{Tray}
 use Rattle.desk.specs.Desk.{Word, isNoWord, oneIf, placeAt, keptBy}
-use Rattle.desk.specs.Sound.{traySound}
+use Rattle.desk.specs.Sound.{wordFits, sentFits, traySound}
 use Rattle.desk_sums.specs.declared.Sum.{Sum}
 
 abbrev pub noSum : Sum
@@ -29,14 +29,15 @@ unfoldable pub orPast : Clock → ℕ → ℕ
 orPast c d = ored 0 (drop d (c .n))
 
 -- ---- what is added
--- a clock that may be there, with any word; or that must be zero, with its word
-unfoldable pub addClock : Sum → Bool → Clock → Word → Sum
-addClock s carried c word =
-    cond carried (record { h = joined (s .h) c; z = s .z; w = s .w }) (record { h = s .h; z = joined (s .z) c; w = bitOr (s .w) word })
-
 -- something that must not be
 abbrev pub noted : Sum → Bool → Sum
 noted s bad = record { h = s .h; z = s .z; w = bitOr (s .w) (oneIf bad) }
+
+-- a clock that may be there, with a word that fits it; or that must be zero, with its word
+unfoldable pub addClock : Sum → Bool → Clock → Word → Sum
+addClock s carried c word =
+    cond carried (noted (record { h = joined (s .h) c; z = s .z; w = s .w }) (not (wordFits word c)))
+    (record { h = s .h; z = joined (s .z) c; w = bitOr (s .w) word })
 
 -- a cell that is none of the tray's
 unfoldable pub restOf : Sum → Cell → Sum
@@ -47,10 +48,11 @@ unfoldable pub addKept : Sum → Bool → Cell → Sum
 addKept s kept x =
     cond (x .held) (addClock s true (x .stamp) (x .word)) (noted (addClock s false (x .stamp) (x .word)) kept)
 
--- a slot that names what it may not, or a desk that is served and does not wait
+-- a slot that names or sends what it may not, or a desk that is served and does not wait
 unfoldable pub slotBad : Bool → ℕ → Bool → Slot → Bool → Bool
 slotBad there cells own s served =
-    cond (eqb (s .kind) 0) (served || not (eqb (s .cell) 0)) (ltb 4 (s .kind) || leb cells (s .cell) || own || not there)
+    cond (eqb (s .kind) 0) (served || not (eqb (s .cell) 0))
+    (ltb 4 (s .kind) || leb cells (s .cell) || own || not there || not (sentFits (s .kind) (s .clock)))
 
 unfoldable pub addSeat : Sum → Bool → ℕ → Bool → Seat → Sum
 addSeat s there cells own v =
@@ -86,10 +88,11 @@ recordFits t desk v row =
 
 -- ---- what each adds to the test
 unfoldable pub clockFits : ℕ → Bool → Clock → Word → Bool
-clockFits desks carried c word = cond carried (isWithin desks c) (isNoWord word && isWithin 0 c)
+clockFits desks carried c word = cond carried (isWithin desks c && wordFits word c) (isNoWord word && isWithin 0 c)
 
 unfoldable pub restFits : Cell → Bool
 restFits x = isNoWord (x .word) && isWithin 0 (x .stamp) && not (x .held)
 
 unfoldable pub keptFits : ℕ → Bool → Cell → Bool
-keptFits desks kept x = cond (x .held) (isWithin desks (x .stamp)) (isNoWord (x .word) && isWithin 0 (x .stamp) && not kept)
+keptFits desks kept x =
+    cond (x .held) (isWithin desks (x .stamp) && wordFits (x .word) (x .stamp)) (isNoWord (x .word) && isWithin 0 (x .stamp) && not kept)

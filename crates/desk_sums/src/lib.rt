@@ -11,7 +11,9 @@ use desk::Place;
 use desk::Seat;
 use desk::Slot;
 use desk::Tray;
+use desk::sound::sent_fits;
 use desk::sound::tray_sound;
+use desk::sound::word_fits;
 
 // h is over what may have a number for each desk, z over clocks that must be zero, w over what else must be.
 // (w is wider than a clock's numbers, else the compiler takes those one by one.)
@@ -97,7 +99,7 @@ pub fn add_kept(s: Sum, kept: bool, x: Cell) -> Sum
         return Sum {
             h: over(h, stamp),
             z,
-            w: s.w,
+            w: s.w | (!word_fits(x.word, stamp) as u64),
         };
     }
     Sum {
@@ -107,7 +109,7 @@ pub fn add_kept(s: Sum, kept: bool, x: Cell) -> Sum
     }
 }
 
-// A clock that may be there, with any word; or that must be zero, with its word.
+// A clock that may be there, with a word that fits it; or that must be zero, with its word.
 fn add_clock(s: Sum, carried: bool, c: Clock, word: u32) -> Sum
     ensures { λ r. ⌜ r ≡ addClock s carried c word ⌝ }
 {
@@ -117,7 +119,7 @@ fn add_clock(s: Sum, carried: bool, c: Clock, word: u32) -> Sum
         return Sum {
             h: over(h, c),
             z,
-            w: s.w,
+            w: s.w | (!word_fits(word, c) as u64),
         };
     }
     Sum {
@@ -133,7 +135,7 @@ fn slot_bad(there: bool, cells: u8, own: bool, s: Slot, served: bool) -> bool
     if s.kind == 0 {
         return served | (s.cell != 0);
     }
-    (4 < s.kind) | (cells <= s.cell) | own | !there
+    (4 < s.kind) | (cells <= s.cell) | own | !there | !sent_fits(s.kind, s.clock)
 }
 
 // What a desk has beside its cells: whether the desk is there, the cell count, whether it keeps the cell that its slot names.

@@ -13,7 +13,7 @@ ghost use mathlib.Core.List.{_∷_, []};
 ghost use mathlib.Core.Path.{_≡_};
 ghost use Prim.Native.Nat.{_+_, _≤_, _<_};
 ghost use lib.ListN.{length, drop};
-ghost use Rattle.table.specs.Rows.{Sized};
+ghost use Rattle.table.specs.Room.{Room};
 ghost use Rattle.table.specs.Sound.{tableSound};
 ghost use Rattle.text.specs.Line.{linesOf, lineOf};
 ghost use Rattle.text.specs.Printing.{Put};
@@ -81,7 +81,7 @@ fn second(desks: u32, cells: u32, s: &[u8], at: usize, out: &mut [u8]) -> usize
 
 // The answer to the events. A fresh table is sound and every event keeps it so: none is tested.
 fn run(t: Table, s: &[u8], start: usize, out: &mut [u8]) -> usize
-    requires { ⌜ (tableSound t ≡ true) × Sized t ⌝ }
+    requires { ⌜ (tableSound t ≡ true) × Room t ⌝ }
     requires { ⌜ length (now s) ≤ 65536 ⌝ }
     requires { ⌜ 270400 ≤ length (now out) ⌝ }
     ensures { λ r. ⌜ Put (Script·run setUp event t 3 (linesOf (drop start (now (s .entry))))) (now (out .entry)) 0 (now (out .exit)) r ⌝ }

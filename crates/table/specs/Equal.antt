@@ -8,8 +8,9 @@ use native.Mathlib.Decide.{ℕ-discrete}
 use native.Mathlib.Omega.{arith}
 use borrow.Author.Tests.{eq-eqb, ne-eqb, lt-ltb}
 use lib.Dec.{eqb, lit≤}
-use Rattle.clock.specs.Clock.{isWithin}
-use Rattle.clock.specs.Laws.{past-within}
+use Rattle.clock.specs.declared.Clock.{Clock}
+use Rattle.clock.specs.Clock.{zeroClock, isWithin, raised}
+use Rattle.clock.specs.Laws.{past-within, zero-past, raised-past, raised-some}
 use Rattle.desk.specs.declared.Event.{Event}
 use Rattle.desk.specs.declared.Message.{Message}
 use Rattle.desk.specs.declared.Record.{Record}
@@ -24,14 +25,15 @@ use Rattle.desk.specs.Rules.{inTray, requestFits, serveLines, serveRefusal, ans
 use Rattle.desk.specs.Rules as rules
 use Rattle.desk.specs.SameDesk.{serve-answers, event-same, bring-same}
 use Rattle.desk.specs.Sound.{isSound}
-use Rattle.desk.specs.SoundLaws.{SlotRule, rule-sound}
+use Rattle.desk.specs.SoundLaws.{SlotRule, rule-word, rule-sent, rule-sound}
 use Rattle.desk.specs.StepLaws.{event-told}
 use Rattle.theory_lists.specs.Test.{both}
 use Rattle.theory_refusals.specs.Refusals.{firstOf, unless-done}
 use Rattle.table.specs.declared.Outcome.{Outcome}
 use Rattle.table.specs.declared.Table.{Table}
+use Rattle.table.specs.Room.{Room}
 use Rattle.table.specs.Rows.{Sized, row-length, put-same}
-use Rattle.table.specs.RuleLaws.{kind-waits, Passed, pass, is-take, is-bring, is-own-rule, Asks, here, take-asks, answer-waits, slot-past, own-sound, own-passes}
+use Rattle.table.specs.RuleLaws.{kind-waits, Passed, pass, is-take, is-bring, is-own-rule, Asks, here, take-asks, answer-waits, slot-is, own-sound, own-passes}
 use Rattle.table.specs.Rules.{refusal, outcome, messageOf, answerSlot, answered, keeperStep, takeRule, bringRule, ownRule, eventRule}
 use Rattle.table.specs.Sound.{tableSound}
 use Rattle.table.specs.SoundLaws.{TableRule, table-rule, desk-below}
@@ -39,8 +41,13 @@ use Rattle.table.specs.Table.{slotOf, keeperFor, recordOf}
 use Rattle.table.specs.Touch.{asker-after, keeper-after}
 
 -- ---- a desk's own record, where "a full slot stays asked until the answer is brought"
+-- The clock that a write was sent with is gone once it is answered. Bringing does not look at it, so any serves that is not all zeros. (The stamp
+-- would not: a sound table may have an answer with a stamp of zeros.)
+abbrev pub someClock : Clock
+someClock = raised zeroClock 0
+
 unfoldable pub askedSlot : Slot → Slot
-askedSlot s = cond (eqb (s .kind) 3) (readAsked (s .cell)) (cond (eqb (s .kind) 4) (writeAsked (s .cell) (s .word) (s .clock)) s)
+askedSlot s = cond (eqb (s .kind) 3) (readAsked (s .cell)) (cond (eqb (s .kind) 4) (writeAsked (s .cell) (s .word) someClock) s)
 
 -- the record with its slot as it was when asked
 abbrev pub asking : Record → Record
@@ -58,7 +65,7 @@ module _ (s : Slot) where
   unfolding askedSlot
   asked-read k = rw (eq-eqb (s .kind) 3 k)
 
-  asked-write : s .kind ≡ 4 → askedSlot s ≡ writeAsked (s .cell) (s .word) (s .clock)
+  asked-write : s .kind ≡ 4 → askedSlot s ≡ writeAsked (s .cell) (s .word) someClock
   unfolding askedSlot
   asked-write k = rw (ne-eqb (s .kind) 3 (omega arith), eq-eqb (s .kind) 4 k)
 
@@ -67,7 +74,7 @@ module _ (s : Slot) where
   asked-names e = ⊎-elim (λ k. rw (asked-read k) (refl, k)) (λ k. rw (asked-write k) (refl, k)) (answered-kind s e)
 
   each-slot : (P : Slot → Type 0) → s .kind ≤ 4 → (s .kind ≤ 2 → P s) → (s .kind ≡ 3 → P (readAsked (s .cell)))
-      → (s .kind ≡ 4 → P (writeAsked (s .cell) (s .word) (s .clock))) → P (askedSlot s)
+      → (s .kind ≡ 4 → P (writeAsked (s .cell) (s .word) someClock)) → P (askedSlot s)
   each-slot P most same read write =
       elim (ℕ-discrete (s .kind) 3) [
         | yes k ↦ rw (asked-read k) (read k)
@@ -90,7 +97,9 @@ module _ (s : Slot) where
       (λ k. let w = kind-waits s (omega arith) in asked-rule t desk (s .cell) (r .used w) (r .not-kept w))
       (λ k.
       let w = kind-waits s (omega arith) in
-      full-rule t desk (writeAsked (s .cell) (s .word) (s .clock)) (lit≤ tt) (lit≤ tt) (r .used w) (r .not-kept w) (r .clock-past))
+      let some = raised-some zeroClock 0 (omega arith) in
+      full-rule t desk (writeAsked (s .cell) (s .word) someClock) (lit≤ tt) (lit≤ tt) (r .used w) (r .not-kept w)
+      (raised-past (t .counts .desks) zeroClock 0 (omega (arith, r .used w .0)) (zero-past (t .counts .desks))) (λ z. absurd (some z)) (λ _. some))
 
 -- a record whose slot is no answer is the desk's own
 asking-same : (v : Record) → v .seat .slot .kind ≤ 2 → asking v ≡ v
@@ -158,12 +167,15 @@ pub record Does (o : Outcome) (desk : ℕ) (s : Step) : Type 0 where
   pub same-reply : o .reply ≡ s .reply
   pub same-record : askedRecord (o .after) desk ≡ s .after
 
-module _ (t : Table) (e : Event) (z : Sized t) (none : refusal t e ≡ 0) where
+module _ (t : Table) (e : Event) (room : Room t) (none : refusal t e ≡ 0) where
+  z : Sized t
+  z = room .sized
+
   a : Passed t e
   a = pass t e z none
 
   slot-within : isWithin (t .tray .counts .desks) (slotOf t (e .desk) .clock) ≡ true
-  slot-within = past-within (t .tray .counts .desks) (slotOf t (e .desk) .clock) (slot-past t e a)
+  slot-within = past-within (t .tray .counts .desks) (slotOf t (e .desk) .clock) (slot-is t e a .clock-past)
 
   -- 3 Take is the keeper's serve, and its answer is the message of the asker's slot
   module _ (k : e .kind ≡ 3) where
@@ -177,7 +189,11 @@ module _ (t : Table) (e : Event) (z : Sized t) (none : refusal t e ≡ 0) where
         fits : requestFits (t .tray) (keeperFor t (e .desk)) (messageOf t (e .desk)) ≡ true
         fits =
             both
-            (both (both (both (eq-eqb (t .tray .counts .desks) (t .tray .counts .desks) refl) slot-within) (a .seat .asked k))
+            (both
+            (both
+            (both (both (eq-eqb (t .tray .counts .desks) (t .tray .counts .desks) refl) slot-within)
+            (rule-sent (slotOf t (e .desk) .kind) (slotOf t (e .desk) .clock) (slot-is t e a .sent)))
+            (a .seat .asked k))
             (both (lt-ltb (e .desk) (t .tray .counts .desks) (a .desk-is))
             (ap not (ne-eqb (e .desk) (keeperFor t (e .desk)) (λ q. asks .another (sym q))))))
             (asks .keeps-it)
@@ -218,7 +234,9 @@ module _ (t : Table) (e : Event) (z : Sized t) (none : refusal t e ≡ 0) where
         fits : answerFits (t .tray) (e .desk) (askedSlot s) (messageOf t (e .desk)) ≡ true
         fits =
             let names = asked-names s (a .seat .answered k) in
-            both (both (eq-eqb (t .tray .counts .desks) (t .tray .counts .desks) refl) slot-within)
+            both
+            (both (both (eq-eqb (t .tray .counts .desks) (t .tray .counts .desks) refl) slot-within)
+            (rule-word (s .word) (s .clock) (slot-is t e a .no-word)))
             (both (both (eq-eqb (e .desk) (e .desk) refl) (eq-eqb (s .cell) (askedSlot s .cell) (names .0)))
             (eq-eqb (s .kind) (answerKind (askedSlot s .kind)) (names .1)))
 
@@ -264,7 +282,9 @@ module _ (t : Table) (e : Event) (z : Sized t) (none : refusal t e ≡ 0) where
     unfolding ownRule outcome
     own-does =
         let v = recordOf t (e .desk) in
-        let kept = event-kept v (row-length t (e .desk) z (here t e a)) (own-sound t e a o) e (allowed v e (own-passes t e a o)) in
+        let kept =
+        event-kept v (row-length t (e .desk) z (here t e a)) (room .clocks (e .desk) (here t e a)) (own-sound t e a o) e
+        (allowed v e (own-passes t e a o)) in
         record {
           same-reply = rw (is-own-rule t e none o, events);
           same-record = rw events (ap asking own-after ∙ asking-same (eventDone v e .after) (kept .asked));

@@ -3,7 +3,7 @@
 use mathlib.Core.Path.{_≡_, refl, sym, _∙_}
 use mathlib.Core.Bool.{true}
 use mathlib.Core.List.{List, [], _∷_}
-use Prim.Native.Nat.{ℕ, _+_, _*_, _/_, _%_, _<_}
+use Prim.Native.Nat.{ℕ, _+_, _*_, _/_, _%_, _≤_, _<_}
 use native.Mathlib.Omega.{arith}
 use borrow.Author.Tests.{lt-leb}
 use lib.Dec.{leb}
@@ -19,6 +19,7 @@ use Rattle.theory_lists.specs.Each.{mapAt, length-mapAt, getD-mapAt}
 use Rattle.theory_refusals.specs.Refusals.{Line, firstOf, unless, numbersFrom, first-more, unless-done, unless-either}
 use Rattle.table.specs.declared.SetUp.{SetUp}
 use Rattle.table.specs.declared.Table.{Table}
+use Rattle.table.specs.Room.{Room}
 use Rattle.table.specs.Rows.{Sized, row-length}
 use Rattle.table.specs.SetUp.{freshCell, freshTable, noTable, notSetUp, setUpRule}
 use Rattle.table.specs.Sound.{tableSound}
@@ -55,6 +56,10 @@ module _ (t : Tray) (long : length (t .places) ≡ 32) where
   unfolding freshTable recordOf freshRecord
   fresh-record p h = λ i. record { tray = t; desk = p; seat = getD-replicate 8 p noSeat pastSeat h i; row = row p h i }
 
+  fresh-clocks : (p : ℕ) → p < 8 → 8 ≤ length (recordOf (freshTable t) p .seat .clock .n)
+  unfolding recordOf freshTable
+  fresh-clocks p h = rw (getD-replicate 8 p noSeat pastSeat h) (omega arith)
+
   -- on a tray that is sound, who keeps a cell is a desk
   tray-fresh : TrayRule t → TableRule (freshTable t)
   unfolding freshTable
@@ -74,19 +79,23 @@ module _ (p : Plan) (long : length (p .keepers) ≡ 32) where
   unfolding freshTray
   places = length-mapAt (plannedPlace (p .cells)) (p .keepers) ∙ long
 
-  pub fresh-sized : Sized (freshTable (freshTray p))
-  fresh-sized = tray-sized (freshTray p) places
+  pub fresh-room : Room (freshTable (freshTray p))
+  fresh-room = record { sized = tray-sized (freshTray p) places; clocks = fresh-clocks (freshTray p) places }
 
   pub fresh-sound : setUpRefusal p ≡ 0 → tableSound (freshTable (freshTray p)) ≡ true
   fresh-sound none = rule-table (freshTable (freshTray p)) (tray-fresh (freshTray p) places (fresh-tray p none))
 
   -- what set-up gives: lengths always, and soundness with code 0
-  pub set-up-sized : Sized (setUpRule p .table)
-  unfolding setUpRule noTable noTray
-  set-up-sized =
-      unless-either (setUpRefusal p) notSetUp (record { code = 0; table = freshTable (freshTray p) }) (λ (s : SetUp). Sized (s .table))
-      (λ _. record { all-cells = length-replicate 256 noCell; all-places = length-replicate 32 noPlace; all-seats = refl })
-      (λ _. fresh-sized)
+  pub set-up-room : Room (setUpRule p .table)
+  unfolding setUpRule noTable noTray recordOf
+  set-up-room =
+      unless-either (setUpRefusal p) notSetUp (record { code = 0; table = freshTable (freshTray p) }) (λ (s : SetUp). Room (s .table))
+      (λ _.
+      record {
+        sized = record { all-cells = length-replicate 256 noCell; all-places = length-replicate 32 noPlace; all-seats = refl };
+        clocks = λ d h. rw (getD-replicate 8 d noSeat pastSeat h) (omega arith);
+      })
+      (λ _. fresh-room)
 
   pub set-up-sound : setUpRule p .code ≡ 0 → tableSound (setUpRule p .table) ≡ true
   unfolding setUpRule

@@ -2,29 +2,29 @@
 -- Assumes nothing.
 use mathlib.Core.Path.{_≡_}
 use mathlib.Core.Bool.{true}
-use mathlib.Core.Logic.{⊎-elim}
+use mathlib.Core.Logic.{_⊎_, ⊎-elim}
 use Prim.Native.Nat.{ℕ, _≤_, _<_}
 use native.Mathlib.Decide.{ℕ-discrete}
 use native.Mathlib.Omega.{arith}
-use lib.Dec.{eqb}
+use borrow.Author.Tests.{eq-eqb, ne-eqb}
 use lib.ListN.{length}
-use Rattle.clock.specs.Laws.{ZeroPast}
+use Rattle.clock.specs.Laws.{ZeroPast, merge-zero}
 use Rattle.desk.specs.declared.Event.{Event}
 use Rattle.desk.specs.declared.Message.{Message}
 use Rattle.desk.specs.declared.Record.{Record}
 use Rattle.desk.specs.declared.Slot.{Slot}
 use Rattle.desk.specs.declared.Step.{Step}
-use Rattle.desk.specs.Desk.{waits, isOwn}
+use Rattle.desk.specs.Desk.{noWord, waits, isOwn}
 use Rattle.desk.specs.Kept.{event-kept, clock-past, takes-row, brings-row, seat-row, slot-seat, full-rule}
 use Rattle.desk.specs.RuleLaws.{allowed, asked-kind}
 use Rattle.desk.specs.Rules.{withSlot, eventDone, takes, readServed, writeServed, serveDone, bringDone}
 use Rattle.desk.specs.SameDesk.{SameDesk, seat-same, Answers, serve-answers, takes-same, event-same, serve-same, bring-same}
 use Rattle.desk.specs.SoundLaws.{SlotRule, RowRule}
-use Rattle.theory_lists.specs.Test.{whichever}
 use Rattle.table.specs.declared.Outcome.{Outcome}
 use Rattle.table.specs.declared.Table.{Table}
-use Rattle.table.specs.Rows.{Sized, row-length, put-sized, put-same, put-other}
-use Rattle.table.specs.RuleLaws.{kind-waits, Passed, each-event, Asks, here, take-asks, bring-asks, slot-past, own-sound, own-passes}
+use Rattle.table.specs.Room.{Room}
+use Rattle.table.specs.Rows.{row-length, put-sized, put-same, put-other}
+use Rattle.table.specs.RuleLaws.{kind-waits, Passed, each-event, Asks, here, take-asks, bring-asks, slot-is, own-sound, own-passes}
 use Rattle.table.specs.Rules.{outcome, messageOf, answerSlot, answered, putAnswer, keeperStep, takeRule, bringRule, ownRule, eventRule}
 use Rattle.table.specs.Sound.{tableSound}
 use Rattle.table.specs.SoundLaws.{TableRule, table-rule, rule-table, desk-below}
@@ -55,27 +55,41 @@ answer-kept t desk m r h new w =
     put-kept t desk (answered v (answerSlot m)) r h (seat-same v s)
     (seat-row v s (r .row-is desk h) (slot-seat (t .tray) desk (v .seat) (answerSlot m) (v .seat .served) (r .row-is desk h .seat-is) new (λ _. w)))
 
--- a keeper that serves: its row, and the stamp that it answers with
+-- a keeper that serves: its row, and the word and stamp that it answers with
 module _ (v : Record) (m : Message) (there : v .desk < v .tray .counts .desks) (r : RowRule v) (c : m .cell < v .tray .counts .cells)
-    (p : ZeroPast (v .tray .counts .desks) (m .clock)) where
-  serve-row : RowRule (serveDone v m .after)
-  unfolding serveDone readServed writeServed
-  serve-row = whichever (λ (s : Step). RowRule (s .after)) (eqb (m .kind) 1) (readServed v m) (writeServed v m) r (takes-row v m there r c p)
+    (p : ZeroPast (v .tray .counts .desks) (m .clock)) (kind : (m .kind ≡ 1) ⊎ (m .kind ≡ 2)) (sent : m .kind ≡ 2 → ZeroPast 0 (m .clock) → ⊥) where
+  record Serves (s : Step) : Type 0 where
+    row : RowRule (s .after)
+    past : ZeroPast (v .tray .counts .desks) (s .message .clock)
+    no-word : ZeroPast 0 (s .message .clock) → s .message .word ≡ noWord
 
-  serve-past : m .cell < length (v .row) → ZeroPast (v .tray .counts .desks) (serveDone v m .message .clock)
+  serves : m .cell < length (v .row) → Serves (serveDone v m)
   unfolding serveDone readServed writeServed takes
-  serve-past h =
-      whichever (λ (s : Step). ZeroPast (v .tray .counts .desks) (s .message .clock)) (eqb (m .kind) 1) (readServed v m) (writeServed v m)
-      (r .cell-is (m .cell) h .stamp-past) (clock-past (takes v m) there (takes-row v m there r c p))
+  serves h = ⊎-elim of-read of-write kind
+    where
+      of-read : m .kind ≡ 1 → Serves (serveDone v m)
+      of-read k =
+          let x = r .cell-is (m .cell) h in
+          rw (eq-eqb (m .kind) 1 k) (record { row = r; past = x .stamp-past; no-word = x .no-word })
+
+      of-write : m .kind ≡ 2 → Serves (serveDone v m)
+      of-write k =
+          let row = takes-row v m there r c p (sent k) in
+          rw (ne-eqb (m .kind) 1 (omega arith))
+          (record {
+            row = row;
+            past = clock-past (takes v m) there row;
+            no-word = λ z. absurd (sent k (merge-zero (v .seat .clock) (m .clock) z));
+          })
 
 -- ---- the three ways to do an event
-module _ (t : Table) (e : Event) (a : Passed t e) where
+module _ (t : Table) (e : Event) (z : Room t) (a : Passed t e) where
   own-kept : isOwn e ≡ true → TableRule (ownRule t e .after)
   unfolding ownRule outcome
   own-kept o =
       let v = recordOf t (e .desk) in
       put-kept t (e .desk) (eventDone v e .after) (a .sound) (here t e a) (event-same v e)
-      (event-kept v (row-length t (e .desk) (a .sound .sized) (here t e a)) (own-sound t e a o) e
+      (event-kept v (row-length t (e .desk) (z .sized) (here t e a)) (z .clocks (e .desk) (here t e a)) (own-sound t e a o) e
       (allowed v e (own-passes t e a o)) .row-is)
 
   bring-kept : e .kind ≡ 4 → TableRule (bringRule t (e .desk) .after)
@@ -84,13 +98,14 @@ module _ (t : Table) (e : Event) (a : Passed t e) where
       let v = recordOf t (e .desk) in
       let m = messageOf t (e .desk) in
       let asking = bring-asks t e a k in
+      let slot = slot-is t e a in
       put-kept t (e .desk) (bringDone v m .after) (a .sound) (here t e a) (bring-same v m)
-      (brings-row v m (a .desk-is) (a .sound .row-is (e .desk) (here t e a)) (asking .cell-is) (slot-past t e a) (asking .not-kept))
+      (brings-row v m (a .desk-is) (a .sound .row-is (e .desk) (here t e a)) (asking .cell-is) (slot .clock-past) (asking .not-kept) (slot .no-word))
 
   take-kept : e .kind ≡ 3 → TableRule (takeRule t (e .desk) .after)
   unfolding takeRule keeperStep messageOf recordOf putBack
   take-kept k =
-      answer-kept (putBack t (serveDone keeper m .after)) (e .desk) (serveDone keeper m .message) keeper-kept (here t e a) slot-is
+      answer-kept (putBack t (serveDone keeper m .after)) (e .desk) (serveDone keeper m .message) keeper-kept (here t e a) answer-is
       (kind-waits s (omega (arith, names .answer-kind)))
     where
       keeper : Record
@@ -111,36 +126,30 @@ module _ (t : Table) (e : Event) (a : Passed t e) where
       below : keeperFor t (e .desk) < 8
       below = desk-below t (a .sound) (keeperFor t (e .desk)) (asking .keeper-is)
 
-      row : RowRule keeper
-      row = a .sound .row-is (keeperFor t (e .desk)) below
-
-      keeper-kept : TableRule (putBack t (serveDone keeper m .after))
-      keeper-kept =
-          put-kept t (keeperFor t (e .desk)) (serveDone keeper m .after) (a .sound) below (serve-same keeper m)
-          (serve-row keeper m (asking .keeper-is) row (asking .cell-is) (slot-past t e a))
-
-      most : s .kind ≤ 4
-      most =
-          ⊎-elim (λ q. omega (arith, names .answer-kind)) (λ q. omega (arith, names .answer-kind))
-          (asked-kind (slotOf t (e .desk)) (a .seat .asked k))
+      kind : (m .kind ≡ 1) ⊎ (m .kind ≡ 2)
+      kind = asked-kind (slotOf t (e .desk)) (a .seat .asked k)
 
       there : m .cell < length (keeper .row)
-      there = omega (arith, asking .cell-is, a .sound .tray-is .cells-most, row-length t (keeperFor t (e .desk)) (a .sound .sized) below)
+      there = omega (arith, asking .cell-is, a .sound .tray-is .cells-most, row-length t (keeperFor t (e .desk)) (z .sized) below)
 
-      slot-is : SlotRule (t .tray) (e .desk) s
-      slot-is =
-          full-rule (t .tray) (e .desk) s (omega (arith, names .answer-kind)) most
+      served : Serves keeper m (asking .keeper-is) (a .sound .row-is (keeperFor t (e .desk)) below) (asking .cell-is) (slot-is t e a .clock-past) kind
+          (slot-is t e a .sent) (serveDone keeper m)
+      served = serves keeper m _ _ _ _ kind (slot-is t e a .sent) there
+
+      keeper-kept : TableRule (putBack t (serveDone keeper m .after))
+      keeper-kept = put-kept t (keeperFor t (e .desk)) (serveDone keeper m .after) (a .sound) below (serve-same keeper m) (served .row)
+
+      kinds : (3 ≤ s .kind) × (s .kind ≤ 4)
+      kinds = ⊎-elim (λ q. (omega (arith, names .answer-kind), omega (arith, names .answer-kind))) (λ q. (omega (arith, names .answer-kind), omega (arith, names .answer-kind))) kind
+
+      answer-is : SlotRule (t .tray) (e .desk) s
+      answer-is =
+          full-rule (t .tray) (e .desk) s (omega (arith, kinds .0)) (kinds .1)
           (a .desk-is, rw (names .answer-cell) (asking .cell-is)) (rw (names .answer-cell) (asking .not-kept))
-          (serve-past keeper m (asking .keeper-is) row (asking .cell-is) (slot-past t e a) there)
+          (served .past) (served .no-word) (λ q. absurd (omega (arith, kinds .0)))
 
--- ---- the theorems
-module _ (t : Table) (e : Event) (z : Sized t) where
-  pub event-sized : Sized (eventRule t e .after)
-  event-sized =
-      each-event (λ (o : Outcome). Sized (o .after)) t e z z
-      (λ a k. take-kept t e a k .sized) (λ a k. bring-kept t e a k .sized) (λ a o. own-kept t e a o .sized)
-
-  pub event-sound : tableSound t ≡ true → tableSound (eventRule t e .after) ≡ true
-  event-sound ok =
-      rule-table (eventRule t e .after)
-      (each-event (λ (o : Outcome). TableRule (o .after)) t e z (table-rule t z ok) (take-kept t e) (bring-kept t e) (own-kept t e))
+-- ---- the theorem
+pub event-sound : (t : Table) (e : Event) → Room t → tableSound t ≡ true → tableSound (eventRule t e .after) ≡ true
+event-sound t e z ok =
+    rule-table (eventRule t e .after)
+    (each-event (λ (o : Outcome). TableRule (o .after)) t e (z .sized) (table-rule t (z .sized) ok) (take-kept t e z) (bring-kept t e z) (own-kept t e z))

@@ -4,6 +4,7 @@ pub mod Equal
 pub mod Fresh
 pub mod InPlace
 pub mod Kept
+pub mod Room
 pub mod Rows
 pub mod RuleLaws
 pub mod Rules

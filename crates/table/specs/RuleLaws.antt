@@ -10,13 +10,12 @@ use native.Mathlib.Omega.{arith}
 use borrow.Author.Tests.{ltb-true, leb-true, eqb-true, eq-eqb, ne-eqb, lt-ltb, not-false}
 use lib.Dec.{ltb, leb, eqb}
 use Rattle.clock.specs.Clock.{number}
-use Rattle.clock.specs.Laws.{ZeroPast}
 use Rattle.desk.specs.declared.Event.{Event}
 use Rattle.desk.specs.declared.Slot.{Slot}
 use Rattle.desk.specs.Desk.{keeps, waits, isOwn}
 use Rattle.desk.specs.RuleLaws.{one-of, own-is, is-own, asked-kind, answered-kind, SeatPassed, seat-passed}
 use Rattle.desk.specs.Rules.{placeLines, seatLines, eventLines, eventRefusal}
-use Rattle.desk.specs.SoundLaws.{SoundRule, rule-sound, keeper-keeps, keeper-desk, no-way}
+use Rattle.desk.specs.SoundLaws.{SlotRule, SoundRule, rule-sound, keeper-keeps, keeper-desk, no-way}
 use Rattle.theory_lists.specs.Test.{both-left, both-right}
 use Rattle.theory_refusals.specs.Refusals.{Line, firstOf, unless, numbersFrom, testOf, none-applies, none-after, first-none, unless-refused, unless-done, unless-either}
 use Rattle.table.specs.declared.Outcome.{Outcome}
@@ -162,10 +161,10 @@ module _ (t : Table) (e : Event) (a : Passed t e) where
   pub bring-asks : e .kind ≡ 4 → Asks t (e .desk)
   bring-asks k = asks t (a .sound) (e .desk) here (answer-waits k)
 
-  -- "numbers past the desk count are 0", in the slot as in the message
-  pub slot-past : ZeroPast (t .tray .counts .desks) (slotOf t (e .desk) .clock)
+  -- what holds of the slot holds of the message
+  pub slot-is : SlotRule (t .tray) (e .desk) (slotOf t (e .desk))
   unfolding recordOf
-  slot-past = a .sound .row-is (e .desk) here .seat-is .slot-is .clock-past
+  slot-is = a .sound .row-is (e .desk) here .seat-is .slot-is
 
   -- a desk's own event passes the desk's tests too
   module _ (o : isOwn e ≡ true) where

@@ -15,9 +15,9 @@ use Rattle.desk.specs.declared.Record.{Record}
 use Rattle.desk.specs.declared.Seat.{Seat}
 use Rattle.desk.specs.declared.Slot.{Slot}
 use Rattle.desk.specs.declared.Tray.{Tray}
-use Rattle.desk.specs.Desk.{Word, isNoWord, noPlace, noSeat, cellAt, keeps, heldCell, waits}
+use Rattle.desk.specs.Desk.{Word, isNoWord, isBlank, noPlace, noSeat, cellAt, keeps, heldCell, waits}
 use Rattle.desk.specs.Rules.{readAsked, writeAsked, withClock, withSlot}
-use Rattle.desk.specs.Sound.{countsSound, placeSound, traySound, cellFits, cellSound, slotNames, slotCarries, slotSound, seatSound, cellsSound, isSound}
+use Rattle.desk.specs.Sound.{countsSound, placeSound, traySound, wordFits, sentFits, cellFits, cellSound, slotNames, slotCarries, slotSound, seatSound, cellsSound, isSound}
 use Rattle.table.specs.declared.Table.{Table}
 use Rattle.table.specs.Changes.{withCell, withSeatOf}
 use Rattle.table.specs.SetUp.{freshTable}
@@ -97,6 +97,10 @@ naming c s = record { kind = s .kind; cell = c; word = s .word; clock = s .clock
 abbrev saying : Word → Slot → Slot
 saying w s = record { kind = s .kind; cell = s .cell; word = w; clock = s .clock }
 
+-- with no clock: all zeros
+abbrev unstamped : Slot → Slot
+unstamped s = record { kind = s .kind; cell = s .cell; word = s .word; clock = clock [] }
+
 abbrev sentUp : ℕ → Slot → Slot
 sentUp k s = record { kind = s .kind; cell = s .cell; word = s .word; clock = raised (s .clock) k }
 
@@ -131,6 +135,14 @@ broken =
     ∷ (4, inSlot 4 (naming 32))
     -- "… that its desk does not keep"
     ∷ (1, inSlot 1 (naming 1))
+    -- "word 0 wherever a cell's or slot's stamp is all zeros": of a kept cell, of a copy, of a read and of a write answered
+    ∷ (0, inCell 0 0 (ofWord 1))
+    ∷ (1, inCell 1 0 (ofWord 1))
+    ∷ (3, inSlot 3 unstamped)
+    ∷ (4, inSlot 4 unstamped)
+    -- "no write-asked clock is all zeros", also with word 0
+    ∷ (2, inSlot 2 unstamped)
+    ∷ (2, inSlot 2 (λ s. unstamped (saying 0 s)))
     -- "word and stamp of a cell not held"
     ∷ (5, inCell 5 0 (ofWord 1))
     ∷ (5, inCell 5 2 (stampUp 0))
@@ -170,9 +182,19 @@ brokenRecords =
     ∷ recordOf (inSlot 2 (ofKind 4)) 2
     ∷ map (λ (x : ℕ × Table). recordOf (x .1) (x .0)) broken
 
--- what is sound: the table, the smallest and the largest fresh one, and the records of desks whose slot is not answered
+-- what is sound: the table, the same with a written 0 in a cell and in a slot, or with an answered blank, the smallest and the largest fresh one; and
+-- the records of desks whose slot is not answered
 unfoldable pub soundTables : List Table
-soundTables = right ∷ fresh 1 1 ∷ fresh 8 32 ∷ []
+soundTables =
+    right
+    ∷ inCell 0 1 (ofWord 0)
+    ∷ inSlot 2 (saying 0)
+    ∷ inSlot 3 (saying 0)
+    ∷ inSlot 3 (λ s. unstamped (saying 0 s))
+    ∷ inSlot 4 (λ s. unstamped (saying 0 s))
+    ∷ fresh 1 1
+    ∷ fresh 8 32
+    ∷ []
 
 unfoldable pub soundRecords : List Record
 soundRecords = map (recordOf right) (0 ∷ 1 ∷ 2 ∷ 5 ∷ [])
@@ -183,6 +205,6 @@ pub soundness :
     × (every (map isSound soundRecords) ≡ true)
     × (some (map (λ (x : ℕ × Table). tableSound (x .1)) broken) ≡ false)
     × (some (map isSound brokenRecords) ≡ false)
-unfolding soundTables soundRecords broken brokenRecords every some mapAt freshTable recordOf keeps waits isNoWord isWithin raised countsSound placeSound
-    traySound cellFits cellSound slotNames slotCarries slotSound seatSound cellsSound isSound entrySound allCellsSound seatsSound tableSound
+unfolding soundTables soundRecords broken brokenRecords every some mapAt freshTable recordOf keeps waits isNoWord isBlank isWithin raised countsSound placeSound
+    traySound wordFits sentFits cellFits cellSound slotNames slotCarries slotSound seatSound cellsSound isSound entrySound allCellsSound seatsSound tableSound
 soundness = (refl, refl, refl, refl)

@@ -13,7 +13,7 @@ use Rattle.clock.specs.Clock.{number, paired, merged, isBefore, isWithin, raise
 use Rattle.desk.specs.declared.Reply.{Reply}
 use Rattle.desk.specs.Desk.{Word, noWord, isNoWord, isBlank, noMessage, keeps, waits, isAsked, isAnswered, isOwn}
 use Rattle.desk.specs.Rules.{withClock, withSeat, seatLines, eventDone, readRule as readHeld, writeRule}
-use Rattle.desk.specs.Sound.{countsSound, placeSound, traySound, cellFits, cellSound, slotSound, slotNames, slotCarries, seatSound}
+use Rattle.desk.specs.Sound.{countsSound, placeSound, traySound, wordFits, sentFits, cellFits, cellSound, slotSound, slotNames, slotCarries, seatSound}
 use Rattle.desk.specs.Start.{keepersRight, freshTray, setUpLines, setUpRefusal}
 use Rattle.table.specs.declared.Table.{Table}
 use Rattle.table.specs.Choice.{small, event, run, replies}
@@ -93,7 +93,7 @@ pub edges-hold : Hold edges
 unfolding edges Hold merged isBefore paired every some sum mapAt isWithin raised
     firstOf unless setUpRule setUpRefusal setUpLines keepersRight freshTable freshTray run replies recordOf putBack
     eventRule refusal lines seatLines isOwn isAsked isAnswered done ownRule outcome eventDone readHeld writeRule isNoWord isBlank keeps waits
-    tableSound cellsSound seatsSound entrySound traySound countsSound placeSound cellFits cellSound seatSound slotSound slotNames slotCarries
+    tableSound cellsSound seatsSound entrySound traySound countsSound placeSound wordFits sentFits cellFits cellSound seatSound slotSound slotNames slotCarries
     bytes followed spell numbers carried lengthOf rowOf messageOf frameOf faultLines readLines readRule
 edges-hold =
     (refl, (refl, (refl, ((refl, refl), (refl, (refl, (refl, ((refl, refl), (refl, ((refl, refl), ((refl, refl), (refl, tt))))))))))))

@@ -39,8 +39,9 @@ use Rattle.theory_lists.specs.Each.{mapAt, mapAt-same}
 use Rattle.theory_lists.specs.Sum.{sum}
 use Rattle.theory_lists.specs.Test.{whichever}
 use Rattle.theory_refusals.specs.Refusals.{unless-done, unless-either}
+use Rattle.theory_promise.specs.State.{left-at}
 
--- ---- lists: a sum with one place that counts, and a place of a mapped list
+-- ---- lists: a sum with one place that counts
 module _ {A : Type 0} (d : A) where
   sum-one : (f : ℕ → A → ℕ) (l : List A) (c : ℕ) → ((k : ℕ) → f k d ≡ 0) → ((k : ℕ) → (k ≡ c → ⊥) → f k (getD l k d) ≡ 0)
       → sum (mapAt f l) ≡ f c (getD l c d)
@@ -52,12 +53,6 @@ module _ {A : Type 0} (d : A) where
   sum-one f (x ∷ xs) (suc c) past else =
       let rest = sum-one (λ k. f (suc k)) xs c (λ k. past (suc k)) (λ k ne. else (suc k) (λ e. ne (omega arith))) in
       omega (arith, rest, else 0 (λ e. omega arith))
-
-  mapped-at : (f : ℕ → A → A) (l : List A) (k : ℕ) → ((j : ℕ) → f j d ≡ d) → getD (mapAt f l) k d ≡ f k (getD l k d)
-  unfolding mapAt
-  mapped-at f [] k past = sym (past k)
-  mapped-at f (x ∷ xs) zero past = refl
-  mapped-at f (x ∷ xs) (suc k) past = mapped-at (λ j. f (suc j)) xs k (λ j. past (suc j))
 
 taken-out : (row : List Cell) (c : ℕ) → cellAt (set row c noCell) c .held ≡ false
 taken-out [] c = refl
@@ -133,7 +128,7 @@ module _ (v : Record) where
   abbrev shown : ℕ → Step
   shown c =
       let x = cellAt (v .row) c in
-      replied (shownCode (isBlank (x .word) (x .stamp))) (x .word) 0 noMessage v
+      replied (shownCode (isBlank (x .stamp))) (x .word) 0 noMessage v
 
   abbrev stored : ℕ → Word → Step
   stored c w = replied 0 w 0 noMessage (stores (withSeat v (withClock (v .seat) (nextClock v))) c w)
@@ -210,10 +205,6 @@ module _ (v : Record) where
   abbrev pub learnt : Clock → ℕ → Cell
   learnt x k = let y = cellAt (v .row) k in cond (isCopy (v .tray) (v .desk) k y && isBefore (y .stamp) x) noCell y
 
-  left-at : (x : Clock) (row : List Cell) (k : ℕ) → cellAt (left x row) k ≡ leftAt (v .tray) (v .desk) x k (cellAt row k)
-  unfolding leftOf isLost isCopy
-  left-at x row k = mapped-at pastCell (leftAt (v .tray) (v .desk) x) row k (λ j. refl)
-
   -- at a take: strictly before the *sent* clock
   pub serve-others : (m : Message) → serveRefusal v m ≡ 0 → m .kind ≡ 2 → (k : ℕ) → (k ≡ m .cell → ⊥)
       → cellAt (serveRule v m .after .row) k ≡ learnt (m .clock) k
@@ -221,7 +212,8 @@ module _ (v : Record) where
   serve-others m none two k ne =
       let x = heldCell (m .word) (merged (v .seat .clock) (m .clock)) in
       ap (λ (s : Step). cellAt (s .after .row) k) (unless-done (serveRefusal v m) (refused v) (serveDone v m) none)
-      ∙ rw (ne-eqb (m .kind) 1 (omega arith), getD-set-other (left (m .clock) (v .row)) (m .cell) k x pastCell ne) (left-at (m .clock) (v .row) k)
+      ∙ rw (ne-eqb (m .kind) 1 (omega arith), getD-set-other (left (m .clock) (v .row)) (m .cell) k x pastCell ne)
+      (left-at (v .tray) (v .desk) (m .clock) (v .row) k)
 
   -- at a bring: strictly before the stamp
   pub bring-others : (m : Message) → bringRefusal v m ≡ 0 → (k : ℕ) → (k ≡ m .cell → ⊥)
@@ -230,7 +222,7 @@ module _ (v : Record) where
   bring-others m none k ne =
       ap (λ (s : Step). cellAt (s .after .row) k) (unless-done (bringRefusal v m) (refused v) (bringDone v m) none)
       ∙ getD-set-other (left (m .clock) (others v m)) (m .cell) k (brought (v .seat .served) m) pastCell ne
-      ∙ left-at (m .clock) (others v m) k
+      ∙ left-at (v .tray) (v .desk) (m .clock) (others v m) k
       ∙ ap (leftAt (v .tray) (v .desk) (m .clock) k) (getD-set-other (v .row) (m .cell) k noCell pastCell ne)
 
   -- an own event touches no other cell

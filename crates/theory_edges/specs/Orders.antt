@@ -9,9 +9,9 @@ use Rattle.clock.specs.Clock.{isWithin}
 use Rattle.desk.specs.declared.Event.{Event}
 use Rattle.desk.specs.declared.Plan.{Plan}
 use Rattle.desk.specs.declared.Record.{Record}
-use Rattle.desk.specs.Desk.{isNoWord, noMessage, keeps, waits, isAsked, isAnswered, isOwn}
+use Rattle.desk.specs.Desk.{isNoWord, isBlank, noMessage, keeps, waits, isAsked, isAnswered, isOwn}
 use Rattle.desk.specs.Rules.{withClock, seatLines, eventLines, eventRefusal, inTray, requestFits, serveLines, serveRefusal, answerFits, bringLines, bringRefusal}
-use Rattle.desk.specs.Sound.{countsSound, placeSound, traySound, cellFits, cellSound, slotNames, slotCarries, slotSound, seatSound, cellsSound, isSound}
+use Rattle.desk.specs.Sound.{countsSound, placeSound, traySound, wordFits, sentFits, cellFits, cellSound, slotNames, slotCarries, slotSound, seatSound, cellsSound, isSound}
 use Rattle.desk.specs.Start.{keepersRight, setUpLines, setUpRefusal, startLines, startRefusal}
 use Rattle.table.specs.declared.Table.{Table}
 use Rattle.table.specs.Changes.{withSeatOf}
@@ -91,6 +91,6 @@ given =
 
 pub in-order : map (λ (x : ℕ × ℕ). x .0) given ≡ map (λ (x : ℕ × ℕ). x .1) given
 unfolding given firstOf refusal lines seatLines eventLines inTray requestFits serveLines answerFits bringLines keepersRight setUpLines setUpRefusal startLines
-    startRefusal isOwn isAsked isAnswered every mapAt freshTable recordOf keeps waits isNoWord isWithin countsSound placeSound traySound cellFits
+    startRefusal isOwn isAsked isAnswered every mapAt freshTable recordOf keeps waits isNoWord isBlank isWithin countsSound placeSound traySound wordFits sentFits cellFits
     cellSound slotNames slotCarries slotSound seatSound cellsSound isSound entrySound allCellsSound seatsSound tableSound
 in-order = refl

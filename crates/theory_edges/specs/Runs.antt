@@ -207,9 +207,41 @@ pub served-run : Replied served
 unfolding ran served
 served-run = (refl, refl)
 
--- What is refused changes nothing, and the run goes on; where two lines apply, the earlier one decides. A written 0 is read with code 2, and its writer
--- is told code 0.
--- Rules out: a refusal that fills or clears a slot; 8, 10, 11, 12 and 14 in another order; code 2 for a write.
+-- An equator sheet: cell 0 is the latitude, which is 0, cell 1 the longitude. Before it is written the latitude is blank at its keeper and in desk 1's
+-- copy; then a 0 is read, by its keeper, by an answer and from a copy, with code 0; and so is a 0 that another desk wrote. The writer is told code 0.
+-- Rules out: blank by the word at a read or at a bring; code 2 for a write; code 0 for a blank.
+unfoldable pub equator : Run
+equator =
+    record {
+      start = plan 2 2 (0 ∷ 0 ∷ replicate 30 0);
+      turns =
+          (read 0 0, reply 2 0 0)
+          ∷ (read 1 0, reply 1 0 0)
+          ∷ (take 1, reply 0 0 0)
+          ∷ (bring 1, reply 2 0 0)
+          ∷ (write 0 0 0, reply 0 0 0)
+          ∷ (read 0 0, reply 0 0 0)
+          ∷ (read 0 1, reply 2 0 0)
+          ∷ (read 1 0, reply 2 0 0)
+          ∷ (drop 1 0, reply 0 0 1)
+          ∷ (read 1 0, reply 1 0 0)
+          ∷ (take 1, reply 0 0 0)
+          ∷ (bring 1, reply 0 0 0)
+          ∷ (read 1 0, reply 0 0 0)
+          ∷ (write 1 1 0, reply 1 0 0)
+          ∷ (take 1, reply 0 0 0)
+          ∷ (read 0 1, reply 0 0 0)
+          ∷ (bring 1, reply 0 0 1)
+          ∷ (read 1 1, reply 0 0 0)
+          ∷ [];
+    }
+
+pub equator-run : Replied equator
+unfolding ran equator
+equator-run = refl
+
+-- What is refused changes nothing, and the run goes on; where two lines apply, the earlier one decides.
+-- Rules out: a refusal that fills or clears a slot; 8, 10, 11, 12 and 14 in another order.
 unfoldable pub refused : Run
 refused =
     record {
@@ -226,16 +258,16 @@ refused =
           ∷ (drop 1 1, reply 12 0 0)
           ∷ (bring 1, reply 2 0 0)
           ∷ (drop 1 1, reply 14 0 0)
-          ∷ (write 0 0 0, reply 0 0 0)
+          ∷ (write 0 0 5, reply 0 5 0)
           ∷ (write 2 2 9, reply 10 0 0)
           ∷ (event 6 2 0 0, reply 8 0 0)
           ∷ (event 0 0 0 0, reply 8 0 0)
-          ∷ (read 0 0, reply 2 0 0)
+          ∷ (read 0 0, reply 0 5 0)
           ∷ (drop 1 0, reply 0 0 1)
-          ∷ (write 1 0 0, reply 1 0 0)
+          ∷ (write 1 0 6, reply 1 0 0)
           ∷ (take 1, reply 0 0 0)
-          ∷ (bring 1, reply 0 0 0)
-          ∷ (read 1 0, reply 2 0 0)
+          ∷ (bring 1, reply 0 6 0)
+          ∷ (read 1 0, reply 0 6 0)
           ∷ (drop 0 0, reply 14 0 0)
           ∷ (drop 0 1, reply 0 0 0)
           ∷ (drop 1 0, reply 0 0 1)

@@ -8,8 +8,9 @@ use Prim.Native.Nat.{ℕ}
 use lib.ListN.{replicate}
 use Rattle.desk.specs.declared.Message.{Message}
 use Rattle.desk.specs.declared.Slot.{Slot}
-use Rattle.desk.specs.Desk.{Word, noMessage, keeps}
+use Rattle.desk.specs.Desk.{Word, isNoWord, isBlank, noMessage, keeps}
 use Rattle.desk.specs.Rules.{writeAsked as slotOfWrite, inTray, requestFits, answerFits}
+use Rattle.desk.specs.Sound.{wordFits, sentFits}
 use Rattle.clock.specs.Clock.{isWithin}
 use Rattle.frame.specs.declared.Reading.{Reading}
 use Rattle.frame.specs.declared.Written.{Written}
@@ -125,7 +126,7 @@ written code used = record { code = code; used = used }
 
 -- ---- fitting: in the tray of `Broken`, with six desks, desk 0 keeps cells 0 and 2 and desk 1 cell 1; desk 2 has asked to write cell 0
 unfoldable pub fitRequests : List Message
-fitRequests = message 1 6 1 0 0 [] ∷ message 2 6 5 2 7 (0 ∷ 0 ∷ 0 ∷ 0 ∷ 0 ∷ 1 ∷ []) ∷ message 1 6 1 0 7 (1 ∷ []) ∷ []
+fitRequests = message 1 6 1 0 0 [] ∷ message 2 6 5 2 7 (0 ∷ 0 ∷ 0 ∷ 0 ∷ 0 ∷ 1 ∷ []) ∷ message 1 6 1 0 7 (1 ∷ []) ∷ message 1 6 1 0 7 [] ∷ message 2 6 1 0 0 (0 ∷ 1 ∷ []) ∷ []
 
 -- each is a request to desk 0 but for one field
 unfoldable pub unfitRequests : List Message
@@ -134,6 +135,8 @@ unfitRequests =
     message 1 5 1 0 0 []
     -- "clock numbers past it are 0"
     ∷ message 2 6 1 0 7 (0 ∷ 0 ∷ 0 ∷ 0 ∷ 0 ∷ 0 ∷ 1 ∷ [])
+    -- "no write-asked clock is all zeros"
+    ∷ message 2 6 1 0 0 []
     -- "a request"
     ∷ message 0 6 1 0 0 []
     ∷ message 3 6 1 0 0 []
@@ -154,13 +157,15 @@ fitAnswers = message 4 6 2 0 7 (0 ∷ 0 ∷ 1 ∷ []) ∷ message 4 6 2 0 0 [] �
 -- each is an answer to desk 2 but for one field
 unfoldable pub unfitAnswers : List Message
 unfitAnswers =
-    message 4 5 2 0 7 []
+    message 4 5 2 0 0 []
     ∷ message 4 6 2 0 7 (0 ∷ 0 ∷ 0 ∷ 0 ∷ 0 ∷ 0 ∷ 1 ∷ [])
+    -- "word 0 wherever a … stamp is all zeros"
+    ∷ message 4 6 2 0 7 []
     -- "an answer whose desk, cell and kind (read or write) are those asked"
-    ∷ message 4 6 3 0 7 []
-    ∷ message 4 6 2 2 7 []
-    ∷ message 3 6 2 0 7 []
-    ∷ message 2 6 2 0 7 []
+    ∷ message 4 6 3 0 0 []
+    ∷ message 4 6 2 2 0 []
+    ∷ message 3 6 2 0 0 []
+    ∷ message 2 6 2 0 0 []
     ∷ []
 
 -- at each of a list, the two give the same
@@ -185,5 +190,5 @@ pub unfit-refused :
     × (some (map (requestFits tray 0) unfitRequests) ≡ false)
     × (every (map (answerFits tray 2 asked) fitAnswers) ≡ true)
     × (some (map (answerFits tray 2 asked) unfitAnswers) ≡ false)
-unfolding fitRequests unfitRequests fitAnswers unfitAnswers every some mapAt isWithin keeps inTray requestFits answerFits
+unfolding fitRequests unfitRequests fitAnswers unfitAnswers every some mapAt isNoWord isBlank isWithin keeps wordFits sentFits inTray requestFits answerFits
 unfit-refused = (refl, refl, refl, refl)

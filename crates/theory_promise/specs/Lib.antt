@@ -2,7 +2,6 @@ pub mod Operations
 pub mod Promise
 pub mod InFull
 pub mod State
-pub mod Room
 pub mod Moves
 pub mod Link
 pub mod Start

@@ -2,24 +2,28 @@
 -- Assumes nothing.
 use mathlib.Core.Path.{_≡_, refl, sym}
 use mathlib.Core.Bool.{Bool, true, false, and-false}
+use mathlib.Core.List.{List}
 use mathlib.Core.Logic.{⊎-elim}
 use Prim.Native.Nat.{ℕ, zero, suc, _≤_, _<_}
 use native.Mathlib.Omega.{arith}
 use borrow.Author.Tests.{ne-eqb}
+use lib.ListN.{length}
 use Rattle.theory_causal.specs.Facts.{zeros}
 use Rattle.theory_causal.specs.History.{read, Step, nothing}
 use Rattle.theory_causal.specs.Machine as machine
+use Rattle.theory_causal.specs.Run.Sources.{held-sourced, read-sourced}
 use Rattle.desk.specs.declared.Event.{Event}
 use Rattle.desk.specs.declared.Message.{Message}
 use Rattle.desk.specs.declared.Record.{Record}
 use Rattle.desk.specs.declared.Reply.{Reply}
 use Rattle.desk.specs.declared.Slot.{Slot}
-use Rattle.desk.specs.Desk.{Word, isNoWord, isBlank, cellAt, keeps, isOwn}
+use Rattle.desk.specs.Desk.{Word, isBlank, cellAt, keeps, isOwn}
 use Rattle.desk.specs.RuleLaws.{asked-kind, answered-kind}
 use Rattle.desk.specs.Rules.{shownCode, readRule, writeRule, dropRule, seatLines, eventDone, readServed, writeServed, serveDone, bringDone}
 use Rattle.desk.specs.SoundLaws.{keeps-in, is-keeper, no-keeper}
 use Rattle.table.specs.declared.Outcome.{Outcome}
 use Rattle.table.specs.declared.Table.{Table}
+use Rattle.table.specs.Room.{Room}
 use Rattle.table.specs.Rows.{row-length}
 use Rattle.table.specs.RuleLaws.{Passed, pass, Asks, here, take-asks, bring-asks}
 use Rattle.table.specs.Rules.{lines, refusal, outcome, messageOf, ownRule, putAnswer, keeperStep, takeRule, bringRule, done, refusedWith, eventRule}
@@ -31,12 +35,11 @@ use Rattle.theory_promise.specs.Moves.Alone.{drop-moved, read-moved, rea
 use Rattle.theory_promise.specs.Moves.Bring.{bring-read-moved, bring-write-moved}
 use Rattle.theory_promise.specs.Moves.Take.{Two, answer-moved, take-moved}
 use Rattle.theory_promise.specs.Operations.{words, Trails, isFinished, entry, Shows}
-use Rattle.theory_promise.specs.Room.{Room}
-use Rattle.theory_promise.specs.State.{clash, slotFor, rows, state, slot-kind}
+use Rattle.theory_promise.specs.State.{clash, heldOf, slotFor, rows, state, slot-kind, held-cell, blank-from}
 
--- the reply to an event that finished a read gives the word that the history has
+-- the reply to an event that finished a read gives the word and the source that the history has
 abbrev pub Tied : Step words → Reply → Type 0
-Tied s r = s .kind ≡ read → Shows r (s .word)
+Tied s r = s .kind ≡ read → Shows r (s .word) (s .source)
 
 -- a read that shows a word is finished, blank or not
 finished : (blank : Bool) → isFinished (shownCode blank) ≡ true
@@ -57,7 +60,10 @@ unfolding recordOf
 holds-kept t r q c h k =
     r .row-is q h .cell-is c (omega (arith, keeps-in (t .tray) q c k, r .tray-is .cells-most, row-length t q (r .sized) h)) .keeper-holds k
 
-module _ (n : ℕ) (t : Table) (g : Trails) (z : Room t) where
+module _ {h : List (Step words)} (t : Table) (g : Trails) (z : Room t) (r : machine.Run h (state t g)) where
+  abbrev n : ℕ
+  n = length h
+
   -- what has to be shown of an event and its outcome
   pub record Linked (e : Event) (o : Outcome) : Type 0 where
     pub moved : Moved n t g (o .after) (entry n g t e (o .reply) .1) (entry n g t e (o .reply) .0)
@@ -69,7 +75,7 @@ module _ (n : ℕ) (t : Table) (g : Trails) (z : Room t) where
 
   refused-linked : (e : Event) (c : ℕ) → 3 ≤ c → Linked e (refusedWith t c)
   refused-linked e c h =
-      linked-by (record { room = z; learned = zeros; move = machine.refused n (state t g) })
+      linked-by (record { learned = zeros; move = machine.refused n (state t g) })
       (refused-entry n g t e (refusedWith t c .reply) h) (λ k. clash (cc))
 
   abbrev event : (kind desk cell : ℕ) → Word → Event
@@ -88,14 +94,19 @@ module _ (n : ℕ) (t : Table) (g : Trails) (z : Room t) where
     place r i = omega (arith, r .tray-is .cells-most)
 
     read-linked : Passed t (event 1 p c w) → Done 1 p c w
-    unfolding done ownRule outcome eventDone readRule entry isFinished isOwn isBlank recordOf
+    unfolding done ownRule outcome eventDone readRule entry isFinished isOwn recordOf
     read-linked a = go (cellAt (v .row) c .held) refl
       where
         go : (b : Bool) → cellAt (v .row) c .held ≡ b → Done 1 p c w
         go true i =
+            let x = cellAt (v .row) c in
             rw i
-            (linked-by (read-moved n t g z p (here t _ a) c (a .seat .idle refl) i) (rw (finished (isNoWord (cellAt (v .row) c .word))))
-            (λ k. record { value = refl; code = refl }))
+            (linked-by (read-moved n t g z p (here t _ a) c (a .seat .idle refl) i) (rw (finished (isBlank (x .stamp))))
+            (λ k.
+            record {
+              value = refl;
+              code = blank-from (x .stamp) (g p .source c) (held-sourced r p c (heldOf (g p .source c) (x .word) (x .stamp)) (held-cell x (g p .source c) i) .none);
+            }))
         go false i = rw i (linked-by (read-asked-moved n t g z p (here t _ a) c (a .seat .idle refl)) refl (λ k. clash (cc)))
 
     write-linked : Passed t (event 2 p c w) → Done 2 p c w
@@ -164,7 +175,7 @@ module _ (n : ℕ) (t : Table) (g : Trails) (z : Room t) where
             (rw i) (λ k. clash (cc)))
 
     bring-linked : Passed t (event 4 p c w) → Done 4 p c w
-    unfolding done bringRule outcome bringDone isBlank messageOf recordOf entry isFinished slotFor
+    unfolding done bringRule outcome bringDone messageOf recordOf entry isFinished slotFor
     bring-linked a = ⊎-elim of-read of-write (answered-kind s (a .seat .answered refl))
       where
         q : Asks t p
@@ -175,7 +186,12 @@ module _ (n : ℕ) (t : Table) (g : Trails) (z : Room t) where
             rw i
             (linked-by
             (bring-read-moved n t g z p (here t _ a) (a .sound .row-is p (here t _ a)) (sent 3) (named (a .sound) q) (q .another) (full 3 i))
-            (rw (i, finished (isNoWord (s .word)))) (λ k. record { value = refl; code = refl }))
+            (rw (i, finished (isBlank (s .clock))))
+            (λ k.
+            record {
+              value = refl;
+              code = blank-from (s .clock) (g p .answer) (read-sourced r p (s .cell) (heldOf (g p .answer) (s .word) (s .clock)) (full 3 i) .none);
+            }))
 
         of-write : s .kind ≡ 4 → Done 4 p c w
         of-write i =

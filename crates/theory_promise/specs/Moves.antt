@@ -8,20 +8,20 @@ use Rattle.theory_causal.specs.Keepers as causal
 use Rattle.theory_causal.specs.Machine.{Desk, Own, Move, alone}
 use Rattle.desk.specs.declared.Record.{Record}
 use Rattle.desk.specs.Desk.{keeperOf}
+use Rattle.desk.specs.SameDesk.{SameDesk}
 use Rattle.table.specs.declared.Table.{Table}
+use Rattle.table.specs.Room.{Room}
 use Rattle.table.specs.Rows.{put-same, put-other}
-use Rattle.table.specs.Table.{putBack}
+use Rattle.table.specs.Table.{recordOf, putBack}
 use Rattle.theory_promise.specs.Operations.{words, Trail, Trails}
-use Rattle.theory_promise.specs.Room.{Room, Fits, put-room}
 use Rattle.theory_promise.specs.State.{cellsOf, rowOf, rows, state, row-is}
 pub mod Alone
 pub mod Bring
 pub mod Take
 
 module _ (n : ℕ) (t : Table) (g : Trails) where
-  -- the event was a move of the machine, and there is room for the next
+  -- the event was a move of the machine
   pub record Moved (t' : Table) (g' : Trails) (o : Step words) : Type 0 where
-    pub room : Room t'
     pub learned : ℕ → ℕ
     pub move : Move n (state t g) (state t' g') o learned
 
@@ -30,16 +30,15 @@ module _ (n : ℕ) (t : Table) (g : Trails) where
   Becomes p d o a = Own n p (state t g .last) (rows t g p) d o a
 
   -- Desk p has a new record and a new trail, and the cells that it keeps are as they were.
-  pub alone-moved : Room t → (p : ℕ) → p < 8 → (v : Record) (g' : Trails) (b : Trail) → Fits t p v → g' p ≡ b
+  pub alone-moved : Room t → (p : ℕ) → p < 8 → (v : Record) (g' : Trails) (b : Trail) → SameDesk (recordOf t p) v → g' p ≡ b
       → ((q : ℕ) → q ≢ p → g' q ≡ g q) → {o : Step words} {a : ℕ → ℕ} → Becomes p (rowOf v b) o a
       → ((c : ℕ) → keeperOf (t .tray) c ≡ p → cellsOf (v .row) (b .source) c ≡ rows t g p .cells c) → Moved (putBack t v) g' o
   unfolding putBack
-  alone-moved z p there v g' b f here rest {a = a} m same = record {
-    room = put-room t z p there v f;
+  alone-moved z p there v g' b stays here rest {a = a} m same = record {
     learned = a;
     move =
         alone p m
         (causal.changes (keeperOf (t .tray)) (rows t g) (rows (putBack t v) g') p
-        (row-is (putBack t v) g' p (put-same t p v (z .sized) there (f .same)) here)
-        (λ q ne. row-is (putBack t v) g' q (put-other t p v (z .sized) there (f .same) q ne) (rest q ne)) same);
+        (row-is (putBack t v) g' p (put-same t p v (z .sized) there stays) here)
+        (λ q ne. row-is (putBack t v) g' q (put-other t p v (z .sized) there stays q ne) (rest q ne)) same);
   }

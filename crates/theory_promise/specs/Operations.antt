@@ -11,7 +11,7 @@ use Rattle.theory_causal.specs.Changed.{changed}
 use Rattle.theory_causal.specs.History.{Words, Source, blank, from, Step, nothing, wrote, showed}
 use Rattle.desk.specs.declared.Event.{Event}
 use Rattle.desk.specs.declared.Reply.{Reply}
-use Rattle.desk.specs.Desk.{Word, noWord, isNoWord}
+use Rattle.desk.specs.Desk.{Word, noWord}
 use Rattle.table.specs.Choice.{Engine, run}
 use Rattle.table.specs.declared.Outcome.{Outcome}
 use Rattle.table.specs.declared.Table.{Table}
@@ -81,10 +81,15 @@ noReply = record { code = 0; value = 0; count = 0 }
 abbrev pub repliedAt : Account → (step : ℕ) → Reply
 repliedAt a x = getD (a .replies) x noReply
 
--- the reply gives this word: with code 2 if it is none, else with code 0
-pub record Shows (r : Reply) (word : Word) : Type 0 where
+-- Blank is what comes from no write, and it has code 2. What comes from a write has code 0, whatever its word, also 0.
+unfoldable pub codeFor : Source → ℕ
+codeFor blank = 2
+codeFor (from w) = 0
+
+-- the reply to a read that comes from this source gives this word
+pub record Shows (r : Reply) (word : Word) (source : Source) : Type 0 where
   pub value : r .value ≡ word
-  pub code : r .code ≡ cond (isNoWord word) 2 0
+  pub code : r .code ≡ codeFor source
 
 -- before the first event no word comes from a write
 abbrev pub opened : Table → Account

@@ -10,7 +10,7 @@ use Rattle.desk.specs.declared.Plan.{Plan}
 use Rattle.desk.specs.declared.Reply.{Reply}
 use Rattle.desk.specs.Desk.{Word, isNoWord, isBlank, keeps, isCopy, isLost, leftOf, lossOf, waits, isAsked, isAnswered, isOwn}
 use Rattle.desk.specs.Rules.{readRule, writeRule, dropRule, seatLines, eventDone, readServed, takes, writeServed, serveDone, brings, bringDone}
-use Rattle.desk.specs.Sound.{countsSound, placeSound, traySound, cellFits, cellSound, slotNames, slotCarries, slotSound, seatSound}
+use Rattle.desk.specs.Sound.{countsSound, placeSound, traySound, wordFits, sentFits, cellFits, cellSound, slotNames, slotCarries, slotSound, seatSound}
 use Rattle.desk.specs.Start.{freshTray, keepersRight, setUpLines, setUpRefusal}
 use Rattle.theory_lists.specs.Each.{mapAt}
 use Rattle.theory_lists.specs.Sum.{sum}
@@ -35,7 +35,7 @@ plan desks cells keepers = record { desks = desks; cells = cells; keepers = keep
 unfoldable pub played : Engine → Plan → List Event → Account
 unfolding run told next entry isFinished changed either ℕ-discrete decLt decLe paired merged isBefore isWithin raised isNoWord isBlank keeps
     isCopy isLost leftOf lossOf waits isAsked isAnswered isOwn readRule writeRule dropRule seatLines eventDone readServed takes
-    writeServed serveDone brings bringDone countsSound placeSound traySound cellFits cellSound slotNames slotCarries slotSound seatSound
+    writeServed serveDone brings bringDone countsSound placeSound traySound wordFits sentFits cellFits cellSound slotNames slotCarries slotSound seatSound
     freshTray keepersRight setUpLines setUpRefusal mapAt sum every some firstOf unless lines refusal outcome messageOf ownRule putAnswer
     keeperStep takeRule bringRule done eventRule freshTable setUpRule entrySound cellsSound seatsSound tableSound recordOf putBack
 played rule p events = account rule (setUpRule p .table) events

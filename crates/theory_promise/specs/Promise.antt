@@ -13,7 +13,7 @@ use Rattle.desk.specs.declared.Plan.{Plan}
 use Rattle.table.specs.Choice.{Engine, run, Meets, run-is}
 use Rattle.table.specs.declared.Outcome.{Outcome}
 use Rattle.table.specs.declared.Table.{Table}
-use Rattle.table.specs.Fresh.{set-up-sized}
+use Rattle.table.specs.Fresh.{set-up-room}
 use Rattle.table.specs.Rules.{eventRule}
 use Rattle.table.specs.SetUp.{setUpRule}
 use Rattle.theory_promise.specs.Operations.{words, Shows, Account, repliedAt, opened, told, account}
@@ -31,8 +31,8 @@ pub record Explained (a : Account) (p : ℕ) : Type 0 where
   pub order : Order (historyOf a) p steps
   -- In it each cell's writes stand as they were stored (T-08).
   pub in-turn : InTurn (historyOf a) (λ v w. Before v w steps)
-  -- Each reply that finished a read of p's gave the word of the write that the read came from, or blank where it came from none.
-  pub shown : (x : ℕ) → ReadBy (historyOf a) p x → Shows (repliedAt a x) (wordOf (historyOf a) (historyOf a x .source))
+  -- Each reply that finished a read of p's gave code 0 and the word of the write that the read came from, or code 2 and 0 where it came from none.
+  pub shown : (x : ℕ) → ReadBy (historyOf a) p x → Shows (repliedAt a x) (wordOf (historyOf a) (historyOf a x .source)) (historyOf a x .source)
 
 -- Demand 3 of a rule for events: every plan that set-up does not refuse, every list of events, with any numbers in them, and every desk.
 abbrev pub Demand3 : (rule : Engine) → Type 0
@@ -79,5 +79,5 @@ called-keep plan long ok events outcomes c p =
 pub meets-keeps : (E : Engine) → Meets E → Demand3 E
 meets-keeps E meets plan long ok events p =
     let t = setUpRule plan .table in
-    subst (λ (os : List Outcome). Explained (told (opened t) events os) p) (sym (run-is E meets t events (set-up-sized plan long)))
+    subst (λ (os : List Outcome). Explained (told (opened t) events os) p) (sym (run-is E meets t events (set-up-room plan long)))
     (demand-3 plan long ok events p)

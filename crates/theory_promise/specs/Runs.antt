@@ -16,14 +16,14 @@ use Rattle.desk.specs.Start.{freshTray, setUpRefusal}
 use Rattle.table.specs.Choice.{run}
 use Rattle.table.specs.declared.Outcome.{Outcome}
 use Rattle.table.specs.declared.SetUp.{SetUp}
-use Rattle.table.specs.Fresh.{fresh-sized}
+use Rattle.table.specs.Fresh.{fresh-room}
+use Rattle.table.specs.Room.{Room, event-room}
 use Rattle.table.specs.Rules.{eventRule}
 use Rattle.table.specs.SetUp.{freshTable, notSetUp, setUpRule}
 use Rattle.theory_refusals.specs.Refusals.{unless-either}
 use Rattle.theory_promise.specs.Link.{Tied, linked}
 use Rattle.theory_promise.specs.Operations.{words, entry, Account, noReply, repliedAt, opened, next, told, account}
-use Rattle.theory_promise.specs.Room.{Room}
-use Rattle.theory_promise.specs.Start.{start, fresh-clocks}
+use Rattle.theory_promise.specs.Start.{start}
 use Rattle.theory_promise.specs.State.{clash, state}
 
 -- what holds of a run so far
@@ -62,9 +62,9 @@ module _ (h : List (Step words)) (l : List Reply) (o : Step words) (r : Reply) (
 runs-next : (a : Account) (e : Event) → Runs a → Runs (next a e (outcome a e))
 unfolding next
 runs-next a e r =
-    let k = linked (length (a .history)) (a .table) (a .trails) (r .room) e in
+    let k = linked (a .table) (a .trails) (r .room) (r .runs) e in
     record {
-      room = k .moved .room;
+      room = event-room (a .table) e (r .room);
       runs = machine.next (r .runs) (k .moved .move);
       long = omega (arith, r .long, length-append (a .replies) (reply a e ∷ []), length-append (a .history) (step a e ∷ []));
       tied = tied-next (a .history) (a .replies) (step a e) (reply a e) noReply (r .long) (r .tied) (k .tied);
@@ -79,7 +79,7 @@ runs-all a (e ∷ es) r = runs-all (next a e (outcome a e)) es (runs-next a e r)
 module _ (p : Plan) (long : length (p .keepers) ≡ 32) where
   runs-fresh : Runs (opened (freshTable (freshTray p)))
   runs-fresh = record {
-    room = record { sized = fresh-sized p long; clocks = fresh-clocks (freshTray p) };
+    room = fresh-room p long;
     runs = machine.start (start (freshTray p));
     long = refl;
     tied = λ x k. clash (cc);

@@ -87,7 +87,3 @@ module _ (t : Tray) where
     cells = λ p c g. blank-held (cellAt (recordOf (freshTable t) p .row) c) g (blank-cell p c);
     last = λ c. let k = keeperOf t c in blank-contents (cellAt (recordOf (freshTable t) k .row) c) (blank-cell k c);
   }
-
-  pub fresh-clocks : (p : ℕ) → p < 8 → 8 ≤ length (recordOf (freshTable t) p .seat .clock .n)
-  unfolding recordOf freshTable
-  fresh-clocks p h = rw (getD-replicate 8 p noSeat pastSeat h) (omega arith)

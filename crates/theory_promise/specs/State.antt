@@ -2,9 +2,9 @@
 -- Assumes nothing.
 use mathlib.Core.Path.{_≡_, refl, sym, ap, fun-ext, _∙_}
 use mathlib.Core.Bool.{Bool, true, false, _&&_, not, cond}
-use mathlib.Core.Logic.{_≢_}
+use mathlib.Core.Logic.{_≢_, _↔_}
 use mathlib.Core.List.{List}
-use Prim.Native.Nat.{ℕ, zero, suc, _<_}
+use Prim.Native.Nat.{ℕ, zero, suc, _<_, zero-le}
 use native.Mathlib.Decide.{ℕ-discrete, decLt}
 use native.Mathlib.Omega.{arith}
 use borrow.Author.Tests.{eqb-true, not-true, not-false}
@@ -12,7 +12,8 @@ use lib.Dec.{eqb}
 use lib.ListN.{length, set, length-set, List·getD-eq-default}
 use lib.Seq.{getD-set-same, getD-set-other}
 use Rattle.theory_causal.specs.Changed.{changed, changed-here, changed-elsewhere}
-use Rattle.theory_causal.specs.History.{Source}
+use Rattle.theory_causal.specs.Facts.{zeros}
+use Rattle.theory_causal.specs.History.{Source, blank, from}
 use Rattle.theory_causal.specs.Keepers as causal
 use Rattle.theory_causal.specs.Machine.{Held, gone, held, empty, read-asked, write-asked, read-answered, write-answered, Desk, State, Earlier}
 use Rattle.theory_causal.specs.Machine as machine
@@ -23,13 +24,14 @@ use Rattle.desk.specs.declared.Cell.{Cell}
 use Rattle.desk.specs.declared.Record.{Record}
 use Rattle.desk.specs.declared.Slot.{Slot}
 use Rattle.desk.specs.declared.Tray.{Tray}
-use Rattle.desk.specs.Desk.{Word, noCell, pastCell, cellAt, keeperOf, keeps, isCopy, isLost, leftAt, leftOf, waits}
-use Rattle.desk.specs.SoundLaws.{RowRule, is-keeper, no-keeper, no-way}
+use Rattle.desk.specs.Desk.{Word, isBlank, noCell, pastCell, cellAt, keeperOf, keeps, isCopy, isLost, leftAt, leftOf, waits}
+use Rattle.desk.specs.Rules.{shownCode}
+use Rattle.desk.specs.SoundLaws.{blank-is, is-blank, RowRule, is-keeper, no-keeper, no-way}
 use Rattle.theory_lists.specs.Each.{getD-mapAt, length-mapAt}
 use Rattle.theory_lists.specs.Test.{fails, both, both-left, both-right}
 use Rattle.table.specs.declared.Table.{Table}
 use Rattle.table.specs.Table.{recordOf}
-use Rattle.theory_promise.specs.Operations.{words, Trail, Trails}
+use Rattle.theory_promise.specs.Operations.{words, Trail, Trails, codeFor}
 
 -- what cannot be: two constructors that are one
 pub clash : {A : Type 0} → _≡_ {A = ℕ} 0 1 → A
@@ -92,6 +94,12 @@ raised-numbers p a h =
       | no ne ↦ raised-other a p j ne ∙ sym (changed-elsewhere (number a) p (suc (number a p)) j ne)
     ])
 
+-- blank is what comes from no write: a stamp is all zeros exactly if its source is none
+pub blank-from : (k : Clock) (s : Source) → ((number k ≡ zeros) ↔ (s ≡ blank)) → shownCode (isBlank k) ≡ codeFor s
+unfolding codeFor
+blank-from k blank none = rw (is-blank k (λ j _. ap (λ (f : ℕ → ℕ). f j) (none .1 refl)))
+blank-from k (from w) none = rw (fails (isBlank k) (λ e. clash (cc (none .0 (fun-ext (λ j. blank-is k e j zero-le))))))
+
 -- ---- cells
 pub held-cell : (x : Cell) (s : Source) → x .held ≡ true → cellOf x s ≡ held (heldOf s (x .word) (x .stamp))
 unfolding cellOf
@@ -119,7 +127,7 @@ module _ (row : List Cell) (source : ℕ → Source) (c : ℕ) (x : Cell) (s : S
   set-there b ne = rw (getD-set-other row c b x pastCell ne, changed-elsewhere source c s b ne)
 
 -- what is left of a row, at each place
-left-at : (t : Tray) (p : ℕ) (k : Clock) (row : List Cell) (b : ℕ) → cellAt (leftOf t p k row) b ≡ leftAt t p k b (cellAt row b)
+pub left-at : (t : Tray) (p : ℕ) (k : Clock) (row : List Cell) (b : ℕ) → cellAt (leftOf t p k row) b ≡ leftAt t p k b (cellAt row b)
 unfolding leftOf isLost isCopy
 left-at t p k row b =
     elim (decLt b (length row)) [

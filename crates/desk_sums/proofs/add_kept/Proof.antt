@@ -9,18 +9,24 @@ use Rattle.desk_sums.proofs.add_kept.Tie as tie
 over-requires : tie.Need-over-requires
 over-requires c κs = search needs
 
+word-fits-requires : tie.Need-word-fits-requires
+word-fits-requires c κs = search needs
+
+cast-t11 : tie.Need-cast-t11
+cast-t11 c = search needs
+
 returns : tie.Need-returns
 unfolding addKept addClock
-returns c = rw (c .before .if1 .taken, c .over .ensures)
+returns c = rw (c .before .before .before .if1 .taken, c .before .before .over .ensures, byte-is, c .before .word-fits .ensures)
 
 over-requires-2 : tie.Need-over-requires-2
 over-requires-2 c κs = search needs
 
-cast-t10 : tie.Need-cast-t10
-cast-t10 c = search needs
+cast-t14 : tie.Need-cast-t14
+cast-t14 c = search needs
 
-cast-t12 : tie.Need-cast-t12
-cast-t12 c = search needs
+cast-t16 : tie.Need-cast-t16
+cast-t16 c = search needs
 
 returns-2 : tie.Need-returns-2
 unfolding addKept addClock
@@ -33,4 +39,13 @@ returns-2 c =
 
 pub add-kept-spec : {M : Type 1} → statement M
 add-kept-spec =
-    tie.close (tie.spec over-requires returns over-requires-2 cast-t10 cast-t12 returns-2)
+    tie.close
+    (tie.spec
+    over-requires
+    word-fits-requires
+    cast-t11
+    returns
+    over-requires-2
+    cast-t14
+    cast-t16
+    returns-2)

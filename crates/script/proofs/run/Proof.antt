@@ -19,8 +19,8 @@ use Rattle.text.specs.Printing.{Put}
 use Rattle.text.specs.Walk.{Walked, walked-start, walked-length, walked-turn, walked-bad, walked-end}
 use Rattle.table.specs.declared.Table.{Table}
 use Rattle.table.specs.declared.Outcome.{Outcome}
-use Rattle.table.specs.Kept.{event-sized, event-sound}
-use Rattle.table.specs.Rows.{Sized}
+use Rattle.table.specs.Kept.{event-sound}
+use Rattle.table.specs.Room.{Room, event-room}
 use Rattle.table.specs.Rules.{eventRule}
 use Rattle.table.specs.Sound.{tableSound}
 use Rattle.script.specs.Rules.{eventOf, setUp, event}
@@ -52,7 +52,7 @@ turn s {t = t} {at = at} l x w q e outcome p short =
 abbrev Inv-loop : tie.InvT-loop
 Inv-loop s start out₀ table₀ at₀ n₀ o₀ out table at n o =
     Walked setUp event s (run setUp event table₀ 3 (linesOf (drop start s))) out₀ table n at out o × (o ≤ 270400)
-    × (tableSound table ≡ true) × Sized table
+    × (tableSound table ≡ true) × Room table
 
 abbrev μ-loop : tie.MeasureT-loop
 μ-loop s start out₀ table₀ at₀ n₀ o₀ out table at n o = length s - at
@@ -135,7 +135,7 @@ loop-again c =
       turn (at-loop .before .before .before .args .s .now) (line .result) (x .result) w (line .ensures) four (x .ensures) (put .0) (put .1),
       omega (arith, w .room, in-loop .loop-test .taken, at-loop .before .before .before .pre .1 .0, put .1),
       rw (x .ensures) (event-sound (at-loop .loop .table) _ (at-loop .loop .inv .3) (at-loop .loop .inv .2)),
-      rw (x .ensures) (event-sized (at-loop .loop .table) _ (at-loop .loop .inv .3)),
+      rw (x .ensures) (event-room (at-loop .loop .table) _ (at-loop .loop .inv .3)),
     )
 
 same-length-2 : tie.Need-same-length-2 Inv-loop μ-loop

@@ -17,7 +17,7 @@ use Rattle.text.specs.declared.Line.{Line}
 use Rattle.desk.specs.declared.Plan.{Plan}
 use Rattle.table.specs.declared.Table.{Table}
 use Rattle.table.specs.declared.SetUp.{SetUp}
-use Rattle.table.specs.Fresh.{set-up-sized, set-up-sound}
+use Rattle.table.specs.Fresh.{set-up-room, set-up-sound}
 use Rattle.table.specs.SetUp.{setUpRule}
 use Rattle.script.specs.Rules.{setUp, event}
 use Rattle.script.proofs.second.Statement.{statement}
@@ -98,7 +98,7 @@ run-requires c κs =
     let m = c .before .before .made in
     let long : length (c .before .before .before .before .before .before .read-line .result .n) ≡ 32 = search (needs, c .before .before .before .before .before .before .read-line .ok .1 .1 .1 .0) in
     let plan : Plan = record { desks = start .args .desks; cells = start .args .cells; keepers = c .before .before .before .before .before .before .read-line .result .n } in
-    ((rw (m .ensures) (set-up-sound plan long (rw (← m .ensures) (c .before .if2 .left))), rw (m .ensures) (set-up-sized plan long)), start .pre .1)
+    ((rw (m .ensures) (set-up-sound plan long (rw (← m .ensures) (c .before .if2 .left))), rw (m .ensures) (set-up-room plan long)), start .pre .1)
 
 same-length-3 : tie.Need-same-length-3
 same-length-3 c = search needs

@@ -20,13 +20,13 @@ use Rattle.desk.specs.declared.Record.{Record}
 use Rattle.desk.specs.declared.Slot.{Slot}
 use Rattle.desk.specs.Desk.{Word, noCell, pastCell, cellAt, keeperOf, heldCell, waits}
 use Rattle.desk.specs.Rules.{withClock, withSeat, holds, stores, slotted, readAsked, writeAsked, nextClock}
-use Rattle.desk.specs.SameDesk.{seat-same}
+use Rattle.desk.specs.SameDesk.{SameDesk, seat-same}
 use Rattle.table.specs.declared.Table.{Table}
+use Rattle.table.specs.Room.{Room}
 use Rattle.table.specs.Rows.{row-length, put-same, put-other}
 use Rattle.table.specs.Table.{recordOf, putBack}
 use Rattle.theory_promise.specs.Moves.{Moved, Becomes, alone-moved}
 use Rattle.theory_promise.specs.Operations.{words, Trail, Trails, holding, waiting}
-use Rattle.theory_promise.specs.Room.{Room, Fits, put-room}
 use Rattle.theory_promise.specs.State.{clash, heldOf, cellOf, slotFor, cellsOf, rows, row-is, empty-slot, raised-numbers, held-cell}
 use Rattle.theory_promise.specs.State.{set-here, set-there, fate-same}
 
@@ -42,10 +42,7 @@ module _ (n : ℕ) (t : Table) (g : Trails) (z : Room t) (p : ℕ) (there : p < 
   unfolding recordOf cellOf
   drop-moved h ne =
       alone-moved n t g z p there (holds v c noCell) g (g p)
-      (record {
-        same = record { same-tray = refl; same-number = refl; same-length = length-set (v .row) c noCell };
-        clock = z .clocks p there;
-      })
+      (record { same-tray = refl; same-number = refl; same-length = length-set (v .row) c noCell })
       refl (λ q ne. refl)
       (forgets new (λ b k i. elim (ℕ-discrete b c) [ yes e ↦ clash (cc (here, ap new e)) | no nc ↦ sym (elsewhere b nc) ∙ i ]))
       (λ b i. elsewhere b (λ e. ne (ap (keeperOf (t .tray)) (sym e) ∙ i)))
@@ -69,7 +66,7 @@ module _ (n : ℕ) (t : Table) (g : Trails) (z : Room t) (p : ℕ) (there : p < 
         → Moved n t g (putBack t v) g (showed p c (cellAt (v .row) c .word) (g p .source c) n)
     read-moved h =
         let x = cellAt (v .row) c in
-        alone-moved n t g z p there v g (g p) (record { same = seat-same v (v .seat); clock = z .clocks p there }) refl (λ q ne. refl)
+        alone-moved n t g z p there v g (g p) (seat-same v (v .seat)) refl (λ q ne. refl)
         (reads c (heldOf (g p .source c) (x .word) (x .stamp)) (rows t g p .cells) none (held-cell x (g p .source c) h) (λ b k e. e))
         (λ b k. refl)
 
@@ -80,7 +77,7 @@ module _ (n : ℕ) (t : Table) (g : Trails) (z : Room t) (p : ℕ) (there : p < 
     unfolding recordOf
     asks-moved s m =
         let b = waiting (g p) n in
-        alone-moved n t g z p there (slotted v s) (changed g p b) b (record { same = seat-same v _; clock = z .clocks p there })
+        alone-moved n t g z p there (slotted v s) (changed g p b) b (seat-same v _)
         (changed-here g p b) (changed-elsewhere g p b) m (λ b k. refl)
 
     pub read-asked-moved : Moved n t g (putBack t (slotted v (readAsked c))) (changed g p (waiting (g p) n)) nothing
@@ -107,7 +104,6 @@ module _ (n : ℕ) (t : Table) (g : Trails) (z : Room t) (p : ℕ) (there : p < 
           → Moved n t g (putBack t after) (changed g p (holding (g p) c (from n))) (wrote p c w n)
       unfolding recordOf cellOf putBack raised
       write-moved h mine had = record {
-        room = put-room t z p there after fits;
         learned = stamped .stamp;
         move = writes p c w new record {
           idle = none;
@@ -119,7 +115,7 @@ module _ (n : ℕ) (t : Table) (g : Trails) (z : Room t) (p : ℕ) (there : p < 
               (λ b ne.
               fate-same (keeperOf (t .tray)) (rows t g) p zeros new b (set-there (v .row) (g p .source) c cell (from n) b ne)
               (λ _ k e. never (k .stamp)))
-              (row-is (putBack t after) g' p (put-same t p after (z .sized) there (fits .same)) (changed-here g p b)
+              (row-is (putBack t after) g' p (put-same t p after (z .sized) there stays) (changed-here g p b)
               ∙ ap (λ (k : ℕ → ℕ). machine.storing (rows t g p) (machine.stored n w k) new (v .seat .served)) up)
               (λ q ne. ap (λ (d : machine.Desk words). d .cells) (rest q ne));
           rest = rest;
@@ -138,11 +134,8 @@ module _ (n : ℕ) (t : Table) (g : Trails) (z : Room t) (p : ℕ) (there : p < 
           stamped : Held words
           stamped = machine.stored n w (machine.raised p (number (v .seat .clock)))
 
-          fits : Fits t p after
-          fits = record {
-            same = record { same-tray = refl; same-number = refl; same-length = length-set (v .row) c cell };
-            clock = omega (arith, length-set (v .seat .clock .n) p (number (v .seat .clock) p + 1), z .clocks p there);
-          }
+          stays : SameDesk v after
+          stays = record { same-tray = refl; same-number = refl; same-length = length-set (v .row) c cell }
 
           rest : (q : ℕ) → q ≢ p → rows (putBack t after) g' q ≡ rows t g q
-          rest q ne = row-is (putBack t after) g' q (put-other t p after (z .sized) there (fits .same) q ne) (changed-elsewhere g p b q ne)
+          rest q ne = row-is (putBack t after) g' q (put-other t p after (z .sized) there stays q ne) (changed-elsewhere g p b q ne)

@@ -12,7 +12,6 @@ use Rattle.theory_causal.specs.Keepers as causal
 use Rattle.theory_causal.specs.Machine.{Held, held, read-answered, write-answered, brings-read, brings-write}
 use Rattle.theory_causal.specs.Machine as machine
 use Rattle.clock.specs.Clock.{number}
-use Rattle.clock.specs.Laws.{merge-length}
 use Rattle.desk.specs.declared.Message.{Message}
 use Rattle.desk.specs.declared.Record.{Record}
 use Rattle.desk.specs.Desk.{noCell, pastCell, keeperOf}
@@ -20,11 +19,11 @@ use Rattle.desk.specs.Rules.{learns, holds, brought, brings}
 use Rattle.desk.specs.SameDesk.{brings-same}
 use Rattle.desk.specs.SoundLaws.{RowRule}
 use Rattle.table.specs.declared.Table.{Table}
+use Rattle.table.specs.Room.{Room}
 use Rattle.table.specs.Rows.{row-length}
 use Rattle.table.specs.Table.{recordOf, putBack}
 use Rattle.theory_promise.specs.Moves.{Moved, Becomes, alone-moved}
 use Rattle.theory_promise.specs.Operations.{words, Trail, Trails, holding}
-use Rattle.theory_promise.specs.Room.{Room}
 use Rattle.theory_promise.specs.State.{clash, heldOf, cellOf, slotFor, cellsOf, rows, state, merged-numbers, set-here, fate-learned}
 
 module _ (n : ℕ) (t : Table) (g : Trails) (z : Room t) (p : ℕ) (there : p < 8) (r : RowRule (recordOf t p))
@@ -74,8 +73,7 @@ module _ (n : ℕ) (t : Table) (g : Trails) (z : Room t) (p : ℕ) (there : p < 
   unfolding recordOf slotFor brings
   home-moved {a = a} make =
       alone-moved n t g z p there (brings v m) (changed g p b) b
-      (record { same = brings-same v m; clock = omega (arith, merge-length (v .seat .clock) (m .clock), z .clocks p there) })
-      (changed-here g p b) (changed-elsewhere g p b) {a = a}
+      (brings-same v m) (changed-here g p b) (changed-elsewhere g p b) {a = a}
       (rw (merged-numbers (v .seat .clock) (m .clock))
       (make (causal.brings (keeperOf (t .tray)) (rows t g) p (m .cell) answer new fate named)))
       (causal.kept-cells (keeperOf (t .tray)) (rows t g) p (number (m .clock)) new (m .cell) ne fate)

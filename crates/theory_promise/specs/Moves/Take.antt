@@ -13,22 +13,21 @@ use Rattle.theory_causal.specs.Keepers as causal
 use Rattle.theory_causal.specs.Machine.{Held, held, empty, read-asked, write-asked, read-answered, write-answered, answers, alone}
 use Rattle.theory_causal.specs.Machine as machine
 use Rattle.clock.specs.Clock.{number}
-use Rattle.clock.specs.Laws.{merge-length}
 use Rattle.desk.specs.declared.Message.{Message}
 use Rattle.desk.specs.declared.Record.{Record}
 use Rattle.desk.specs.declared.Slot.{Slot}
 use Rattle.desk.specs.Desk.{cellAt, keeperOf, waits}
 use Rattle.desk.specs.Rules.{learns, takes}
-use Rattle.desk.specs.SameDesk.{seat-same, takes-same}
+use Rattle.desk.specs.SameDesk.{SameDesk, seat-same, takes-same}
 use Rattle.desk.specs.SoundLaws.{RowRule}
 use Rattle.table.specs.declared.Table.{Table}
+use Rattle.table.specs.Room.{Room}
 use Rattle.table.specs.Rows.{row-length}
 use Rattle.table.specs.Rules.{answered as withAnswer}
 use Rattle.table.specs.Table.{recordOf, putBack}
 use Rattle.table.specs.Touch.{taken-asker, taken-keeper, taken-rest}
 use Rattle.theory_promise.specs.Moves.{Moved}
 use Rattle.theory_promise.specs.Operations.{words, Trail, Trails, holding, answered}
-use Rattle.theory_promise.specs.Room.{Room, Fits, put-room}
 use Rattle.theory_promise.specs.State.{heldOf, cellOf, slotFor, cellsOf, rowOf, rows, state, row-is, empty-slot, merged-numbers, held-cell}
 use Rattle.theory_promise.specs.State.{set-here, fate-learned}
 
@@ -41,22 +40,16 @@ pub record Two (k p : ℕ) : Type 0 where
 abbrev taken : Table → Record → (desk : ℕ) → Slot → Table
 taken t u p s = putBack (putBack t u) (withAnswer (recordOf (putBack t u) p) s)
 
-module _ (t : Table) (z : Room t) {k p : ℕ} (two : Two k p) (u : Record) (f : Fits t k u) (s : Slot) where
-  taken-room : Room (taken t u p s)
-  taken-room =
-      let before = put-room t z k (two .keeper) u f in
-      put-room (putBack t u) before p (two .asker) (withAnswer (recordOf (putBack t u) p) s)
-      (record { same = seat-same (recordOf (putBack t u) p) _; clock = before .clocks p (two .asker) })
-
+module _ (t : Table) (z : Room t) {k p : ℕ} (two : Two k p) (u : Record) (stays : SameDesk (recordOf t k) u) (s : Slot) where
   module _ (g : Trails) where
     keeper-row : {b : Trail} → g k ≡ b → rows (taken t u p s) g k ≡ rowOf u b
-    keeper-row = row-is (taken t u p s) g k (taken-keeper t (z .sized) k p (two .keeper) (two .asker) (two .apart) u (f .same) s)
+    keeper-row = row-is (taken t u p s) g k (taken-keeper t (z .sized) k p (two .keeper) (two .asker) (two .apart) u stays s)
 
     asker-row : {b : Trail} → g p ≡ b → rows (taken t u p s) g p ≡ rowOf (withAnswer (recordOf t p) s) b
-    asker-row = row-is (taken t u p s) g p (taken-asker t (z .sized) k p (two .keeper) (two .asker) (two .apart) u (f .same) s)
+    asker-row = row-is (taken t u p s) g p (taken-asker t (z .sized) k p (two .keeper) (two .asker) (two .apart) u stays s)
 
     rest-row : (q : ℕ) → q ≢ k → q ≢ p → {b : Trail} → g q ≡ b → rows (taken t u p s) g q ≡ rowOf (recordOf t q) b
-    rest-row q nk np = row-is (taken t u p s) g q (taken-rest t (z .sized) k p (two .keeper) (two .asker) (two .apart) u (f .same) s q nk np)
+    rest-row q nk np = row-is (taken t u p s) g q (taken-rest t (z .sized) k p (two .keeper) (two .asker) (two .apart) u stays s q nk np)
 
 module _ (n : ℕ) (t : Table) (g : Trails) (z : Room t) (k p : ℕ) (two : Two k p)
     (m : Message) (mine : keeperOf (t .tray) (m .cell) ≡ k) (h : m .cell < 32)
@@ -79,12 +72,11 @@ module _ (n : ℕ) (t : Table) (g : Trails) (z : Room t) (k p : ℕ) (two : Two 
       → Moved n t g (taken t v p read-answer) (changed g p (answered (g p) (g k .source (m .cell)))) nothing
   unfolding recordOf putBack slotFor
   answer-moved e = record {
-    room = taken-room t z two v fits read-answer;
     learned = zeros;
     move =
         alone p (answers (m .cell) e)
         (causal.changes (keeperOf (t .tray)) (rows t g) (rows (taken t v p read-answer) g') p
-        (asker-row t z two v fits read-answer g' (changed-here g p b)
+        (asker-row t z two v stays read-answer g' (changed-here g p b)
         ∙ ap (λ (x : Held words). machine.answered (rows t g p) (read-answered (m .cell) x)) last)
         same
         (λ c i. refl));
@@ -96,8 +88,8 @@ module _ (n : ℕ) (t : Table) (g : Trails) (z : Room t) (k p : ℕ) (two : Two 
       g' : Trails
       g' = changed g p b
 
-      fits : Fits t k v
-      fits = record { same = seat-same v (v .seat); clock = z .clocks k (two .keeper) }
+      stays : SameDesk v v
+      stays = seat-same v (v .seat)
 
       last : it ≡ state t g .last (m .cell)
       last = sym (ap (λ (q : ℕ). causal.contents (rows t g q .cells (m .cell))) mine ∙ ap causal.contents holds-it)
@@ -105,8 +97,8 @@ module _ (n : ℕ) (t : Table) (g : Trails) (z : Room t) (k p : ℕ) (two : Two 
       same : (q : ℕ) → q ≢ p → rows (taken t v p read-answer) g' q ≡ rows t g q
       same q ne =
           elim (ℕ-discrete q k) [
-            | yes e ↦ rw e (keeper-row t z two v fits read-answer g' (changed-elsewhere g p b k (λ i. two .apart (sym i))))
-            | no nk ↦ rest-row t z two v fits read-answer g' q nk ne (changed-elsewhere g p b q ne)
+            | yes e ↦ rw e (keeper-row t z two v stays read-answer g' (changed-elsewhere g p b k (λ i. two .apart (sym i))))
+            | no nk ↦ rest-row t z two v stays read-answer g' q nk ne (changed-elsewhere g p b q ne)
           ]
 
   -- ---- of a write
@@ -121,10 +113,6 @@ module _ (n : ℕ) (t : Table) (g : Trails) (z : Room t) (k p : ℕ) (two : Two 
 
   abbrev new : ℕ → machine.Cell words
   new = cellsOf (takes v m .row) (changed (g k .source) (m .cell) (from n))
-
-  fits : Fits t k (takes v m)
-  unfolding takes
-  fits = record { same = takes-same v m; clock = omega (arith, merge-length (v .seat .clock) (m .clock), z .clocks k (two .keeper)) }
 
   up : number (takes v m .seat .clock) ≡ stamped .stamp
   unfolding takes
@@ -158,7 +146,6 @@ module _ (n : ℕ) (t : Table) (g : Trails) (z : Room t) (k p : ℕ) (two : Two 
       (wrote p (m .cell) (m .word) (g p .asked))
   unfolding recordOf putBack takes slotFor cellOf
   take-moved r e = record {
-    room = taken-room t z two (takes v m) fits write-answer;
     learned = stamped .stamp;
     move = machine.takes k p (m .cell) (m .word) (number (m .clock)) new (on) record {
       apart = two .apart;
@@ -166,7 +153,7 @@ module _ (n : ℕ) (t : Table) (g : Trails) (z : Room t) (k p : ℕ) (two : Two 
       stores =
           causal.stores (keeperOf (t .tray)) (rows t g) (rows after g') k (m .cell) stamped (number (m .clock)) new (on)
           mine it holds-it here (fate r)
-          (keeper-row t z two (takes v m) fits write-answer g'
+          (keeper-row t z two (takes v m) (takes-same v m) write-answer g'
           (changed-elsewhere (changed g k b) p a k (λ e. two .apart (sym e)) ∙ changed-here g k b)
           ∙ ap (λ (a : ℕ → ℕ). machine.storing (rows t g k) (machine.stored n (m .word) a) new (on)) up)
           cells;
@@ -190,12 +177,12 @@ module _ (n : ℕ) (t : Table) (g : Trails) (z : Room t) (k p : ℕ) (two : Two 
 
       asker : rows after g' p ≡ machine.answered (rows t g p) (write-answered (m .cell) stamped)
       asker =
-          asker-row t z two (takes v m) fits write-answer g' (changed-here (changed g k b) p a)
+          asker-row t z two (takes v m) (takes-same v m) write-answer g' (changed-here (changed g k b) p a)
           ∙ ap (λ (a : ℕ → ℕ). machine.answered (rows t g p) (write-answered (m .cell) (machine.stored n (m .word) a))) up
 
       rest : (q : ℕ) → q ≢ k → q ≢ p → rows after g' q ≡ rows t g q
       rest q nk np =
-          rest-row t z two (takes v m) fits write-answer g' q nk np
+          rest-row t z two (takes v m) (takes-same v m) write-answer g' q nk np
           (changed-elsewhere (changed g k b) p a q np ∙ changed-elsewhere g k b q nk)
 
       cells : (q : ℕ) → q ≢ k → rows after g' q .cells ≡ rows t g q .cells

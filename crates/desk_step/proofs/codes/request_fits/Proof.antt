@@ -18,12 +18,17 @@ cast-c c = search needs
 in-tray-requires : tie.Need-in-tray-requires
 in-tray-requires c κs = search needs
 
+sent-fits-requires : tie.Need-sent-fits-requires
+sent-fits-requires c κs = search needs
+
 keeps-requires : tie.Need-keeps-requires
 keeps-requires c κs = search needs
 
 returns-2 : tie.Need-returns-2
 unfolding requestFits
-returns-2 c = rw (c .before .before .before .before .before .before .in-tray .ensures, c .keeps .ensures)
+returns-2 c =
+    let sent = c .before .before .before .before .before .before in
+    rw (sent .before .in-tray .ensures, sent .sent-fits .ensures, c .keeps .ensures)
 
 pub request-fits-spec : {M : Type 1} → statement M
-request-fits-spec = tie.close (tie.spec returns cast-c in-tray-requires keeps-requires returns-2)
+request-fits-spec = tie.close (tie.spec returns cast-c in-tray-requires sent-fits-requires keeps-requires returns-2)
