@@ -87,10 +87,12 @@ pub fn own_reply(kept: bool, x: Cell, e: Event) -> Reply
 fn read_reply(x: Cell) -> Reply
     ensures { λ r. ⌜ r ≡ readReply x ⌝ }
 {
+    let word = x.word;
+    let stamp = x.stamp;
     if x.held {
         return Reply {
-            code: shown_code(is_blank(x.stamp)),
-            value: x.word,
+            code: shown_code(is_blank(stamp)),
+            value: word,
             count: 0,
         };
     }
