@@ -1,5 +1,5 @@
-/* 01's whole case, played by three desks that lend their records and send each other frames, and on a lent table beside them; and refusals,
- * which leave what is lent as it was; and the stack that calls use. The compiler holds the header to the places of
+/* 01's whole case, played by three desks that lend their records and send each other frames, and on a lent table beside them; a written 0 beside
+ * a blank; and refusals, which leave what is lent as it was; and the stack that calls use. The compiler holds the header to the places of
  * crates/cwmorlais/proofs/Places.antt. No header of the C
  * library is used, so any C compiler for x86-64 will do. */
 #include <stddef.h>
@@ -184,6 +184,29 @@ static void play_whole_case(void) {
     EXPECT(desk[0].row[0].held && desk[0].row[0].word == 27 && desk[0].row[1].word == 500);
 }
 
+/* ---- Blank is what nobody has written, and a written 0 is a word */
+
+static const cwmorlais_plan zero_plan = {.desks = 2, .cells = 2, .keepers = {1, 0}};
+
+/* Cell 0 is shown with this code, and 0: by its keeper, by its answer, and by the copy, which is then given up. */
+static void show_zero(uint32_t code, cwmorlais_record *keeper, cwmorlais_record *asker) {
+    const cwmorlais_event read = {.kind = READ};
+    EXPECT(is_reply(cwmorlais_desk_event(keeper, read).reply, code, 0, 0));
+    cwmorlais_answer request = cwmorlais_desk_event(asker, read);
+    cwmorlais_answer answer = cwmorlais_desk_serve(keeper, &request.message);
+    EXPECT(is_reply(request.reply, 1, 0, 0) && is_reply(answer.reply, 0, 0, 0));
+    EXPECT(is_reply(cwmorlais_desk_bring(asker, &answer.message).reply, code, 0, 0));
+    EXPECT(is_reply(cwmorlais_desk_event(asker, read).reply, code, 0, 0));
+    EXPECT(is_reply(cwmorlais_desk_event(asker, (cwmorlais_event){.kind = DROP}).reply, 0, 0, 1));
+}
+
+static void show_zeros(void) {
+    cwmorlais_record asker = started(zero_plan, 0), keeper = started(zero_plan, 1);
+    show_zero(2, &keeper, &asker);
+    EXPECT(is_reply(cwmorlais_desk_event(&keeper, (cwmorlais_event){.kind = WRITE}).reply, 0, 0, 0));
+    show_zero(0, &keeper, &asker);
+}
+
 /* ---- Refusals */
 
 /* Over a record and a table in which no field is zero: a refusal leaves them all zero, and a start or set-up makes what it makes over zeros. */
@@ -257,6 +280,38 @@ static void refuse_at_a_desk(void) {
     refused(9, cwmorlais_desk_event(&v, (cwmorlais_event){.kind = READ}), &was, &v);
     refused(9, cwmorlais_desk_serve(&v, &no_message), &was, &v);
     refused(9, cwmorlais_desk_bring(&v, &no_message), &was, &v);
+}
+
+/* A clock of zeros where something was written: the message does not fit, though it has a frame, and the record or table is not sound. */
+static void refuse_clocks_of_zeros(void) {
+    cwmorlais_record v = started(zero_plan, 0), was = v;
+    cwmorlais_message m = {.kind = 2, .desks = 2, .desk = 1, .cell = 1};
+    refused(15, cwmorlais_desk_serve(&v, &m), &was, &v);
+    m.word = 7;
+    refused(15, cwmorlais_desk_serve(&v, &m), &was, &v);
+    frame bytes;
+    EXPECT(cwmorlais_frame_write(&m, bytes, CWMORLAIS_FRAME_BYTES).code == 0 && same_message(received(bytes), m));
+    m.kind = 1; /* a read's word is ignored */
+    EXPECT(is_reply(cwmorlais_desk_serve(&v, &m).reply, 0, 0, 0) && same_record(&was, &v));
+
+    EXPECT(cwmorlais_desk_event(&v, (cwmorlais_event){.kind = WRITE}).reply.code == 1);
+    was = v;
+    m = (cwmorlais_message){.kind = 4, .desks = 2, .word = 7};
+    refused(15, cwmorlais_desk_bring(&v, &m), &was, &v);
+    v.seat.slot.clock.n[0] = 0; /* the write that it asked */
+    was = v;
+    refused(9, cwmorlais_desk_bring(&v, &m), &was, &v);
+    v = was = started(zero_plan, 0);
+    v.row[1].word = was.row[1].word = 7;
+    refused(9, cwmorlais_desk_event(&v, (cwmorlais_event){.kind = READ, .cell = 1}), &was, &v);
+
+    cwmorlais_table t = {0};
+    EXPECT(cwmorlais_table_set_up(&t, zero_plan) == 0);
+    t.seats[0].slot = (cwmorlais_slot){.kind = 4}; /* blank, told as a write's answer: odd, but sound */
+    EXPECT(is_reply(cwmorlais_table_event(&t, (cwmorlais_event){.kind = BRING}), 0, 0, 0));
+    t.seats[0].slot = (cwmorlais_slot){.kind = 4, .word = 7};
+    cwmorlais_table before = t;
+    EXPECT(is_reply(cwmorlais_table_event(&t, (cwmorlais_event){.kind = BRING}), 9, 0, 0) && same_table(&before, &t));
 }
 
 static void refuse_write(uint32_t code, cwmorlais_message m, size_t room) {
@@ -356,9 +411,11 @@ static void measure_stack(void) {
 
 int main(void) {
     play_whole_case();
+    show_zeros();
     refuse_starts();
     start_over();
     refuse_at_a_desk();
+    refuse_clocks_of_zeros();
     refuse_frames();
     refuse_at_a_table();
     measure_stack();

@@ -45,7 +45,8 @@ typedef struct {
     uint32_t n[8];
 } cwmorlais_clock;
 
-/* What a desk has of one cell. A word of 0 means blank. A cell that is not held has word 0 and the zero stamp. */
+/* What a desk has of one cell. It is blank exactly if its stamp is all zeros: nobody has written it. A word of 0 with another stamp was written and
+ * is a word. A record or table is not sound if a word that is not 0 has a stamp of zeros. A cell that is not held has word 0 and the zero stamp. */
 typedef struct {
     bool held;
     uint32_t word;
@@ -53,7 +54,7 @@ typedef struct {
 } cwmorlais_cell;
 
 /* What a desk waits for: kind 0 nothing, 1 read asked, 2 write asked (word, sent clock); in a table also 3 read answered, 4 write answered
- * (word, stamp). */
+ * (word, stamp). A sent clock is not all zeros, and where a stamp is, the word is 0; else the record or table is not sound. */
 typedef struct {
     uint8_t kind;
     uint8_t cell;
@@ -115,14 +116,16 @@ typedef struct {
     uint32_t word;
 } cwmorlais_event;
 
-/* Codes 0 done, 1 asked, 2 blank, or a refusal. The value is the cell's word, the count that of the copies dropped. */
+/* Codes 0 done, 1 asked, 2 blank (a read of what nobody has written; value 0), or a refusal. The value is the cell's word, which may be 0 with
+ * code 0 too; the count is that of the copies dropped. */
 typedef struct {
     uint32_t code;
     uint32_t value;
     uint32_t count;
 } cwmorlais_reply;
 
-/* What desks send each other: kinds 1 read asked, 2 write asked, 3 read answered, 4 write answered. The desk is the one that asked. */
+/* What desks send each other: kinds 1 read asked, 2 write asked, 3 read answered, 4 write answered. The desk is the one that asked. Word and clock
+ * are those of the slot: where its rule above is broken, the message has a frame like any other, but fits nowhere. */
 typedef struct {
     uint8_t kind;
     uint8_t desks;
@@ -160,10 +163,13 @@ uint32_t cwmorlais_desk_start(cwmorlais_record *v, cwmorlais_plan plan, uint32_t
  * request: send it to the cell's keeper. Refuses 9, 8, 11, 12, 14, 16. */
 cwmorlais_answer cwmorlais_desk_event(cwmorlais_record *v, cwmorlais_event e);
 
-/* A request came for a cell that this desk keeps. With code 0 the message is the answer: send it back. Refuses 9, 15. */
+/* A request came for a cell that this desk keeps. With code 0 the message is the answer: send it back. Refuses 9, 15. It fits if it is another
+ * desk's of this tray, for a cell kept here, with no clock number past the desk count, and if a write's clock is not all zeros. A read's word and
+ * the rest of its clock are ignored. */
 cwmorlais_answer cwmorlais_desk_serve(cwmorlais_record *v, const cwmorlais_message *m);
 
-/* The answer came to what this desk asked. Refuses 9, 13, 15. */
+/* The answer came to what this desk asked. Refuses 9, 13, 15. It fits if its desk count, desk, cell and kind are those asked, with no clock number
+ * past the desk count, and if its word is 0 where its clock is all zeros. */
 cwmorlais_answer cwmorlais_desk_bring(cwmorlais_record *v, const cwmorlais_message *m);
 
 /* ---- Frames: a message as bytes. CWMORLAIS_FRAME_BYTES are enough for any. */

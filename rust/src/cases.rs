@@ -57,64 +57,37 @@ fn script(path: &Path) -> Script {
     }
 }
 
-/// A frame that is read or written, and what that must give.
-#[derive(Debug)]
-pub enum Vector {
-    /// Bytes that are read.
-    Read {
-        /// The bytes.
-        input: Vec<u8>,
-        /// The message, all zero if it is refused.
-        message: Message,
-        /// 0, or a refusal's number.
-        code: u32,
-        /// How many bytes the frame used.
-        used: usize,
-    },
-    /// A message that is written.
-    Write {
-        /// The message.
-        message: Message,
-        /// The output before.
-        before: Vec<u8>,
-        /// The output after.
-        after: Vec<u8>,
-        /// 0, or a refusal's number.
-        code: u32,
-        /// How many bytes the frame used.
-        used: usize,
-    },
-}
-
-/// All stored frame vectors, each with its line: those from outside, and those of `frame_cases`,
-/// which has our own beside them.
-#[must_use]
-pub fn frames() -> Vec<(String, Vector)> {
+/// Holds all stored frame vectors, those from outside and those of `frame_cases`, which has our own
+/// beside them, to what `read` gives of some bytes (a code, the message and the bytes used) and
+/// `write` of a message and an output (a code and the bytes used). Returns the codes of those read
+/// and of those written.
+pub fn hold_frames(
+    read: impl Fn(&[u8]) -> (u32, Message, usize),
+    write: impl Fn(&Message, &mut [u8]) -> (u32, usize),
+) -> (Vec<u32>, Vec<u32>) {
     let own = Path::new(env!("CARGO_MANIFEST_DIR")).join("../crates/frame_cases/stdout");
     let files = [folder().join("frames.txt"), own];
     let texts = files.map(|file| fs::read_to_string(file).expect("frame vectors"));
-    let lines = texts.iter().flat_map(|text| text.lines());
-    lines.map(|line| (line.to_string(), vector(line))).collect()
-}
-
-fn vector(line: &str) -> Vector {
-    let fields: Vec<&str> = line.split(' ').collect();
-    match (fields[0], fields.len()) {
-        ("R", 17) => Vector::Read {
-            input: bytes(fields[1]),
-            message: message(&fields[4..]),
-            code: number(fields[2]),
-            used: size(fields[3]),
-        },
-        ("W", 18) => Vector::Write {
-            message: message(&fields[1..14]),
-            before: vec![0xEE; size(fields[14])],
-            after: bytes(fields[17]),
-            code: number(fields[15]),
-            used: size(fields[16]),
-        },
-        _ => panic!("no such vector: {line}"),
+    let (mut reads, mut writes) = (Vec::new(), Vec::new());
+    for line in texts.iter().flat_map(|text| text.lines()) {
+        let fields: Vec<&str> = line.split(' ').collect();
+        match (fields[0], fields.len()) {
+            ("R", 17) => {
+                let must = (number(fields[2]), message(&fields[4..]), size(fields[3]));
+                assert_eq!(read(&bytes(fields[1])), must, "{line}");
+                reads.push(must.0);
+            }
+            ("W", 18) => {
+                let mut out = vec![0xEE; size(fields[14])];
+                let must = (number(fields[15]), size(fields[16]));
+                assert_eq!(write(&message(&fields[1..14]), &mut out), must, "{line}");
+                assert_eq!(out, bytes(fields[17]), "{line}");
+                writes.push(must.0);
+            }
+            _ => panic!("no such vector: {line}"),
+        }
     }
+    (reads, writes)
 }
 
 fn message(fields: &[&str]) -> Message {

@@ -30,6 +30,18 @@ impl Clock {
         nowhere_larger && self != other
     }
 
+    /// As a stamp: nobody wrote the word beside it. That alone is blank, whatever the word is.
+    #[must_use]
+    pub fn is_blank(&self) -> bool {
+        *self == Clock::ZERO
+    }
+
+    /// As a stamp: whether this word may stand beside it. What is blank has word 0.
+    #[must_use]
+    pub fn may_stamp(&self, word: u32) -> bool {
+        word == 0 || !self.is_blank()
+    }
+
     /// No number past the desk count is other than 0.
     #[must_use]
     pub fn fits(&self, desks: usize) -> bool {

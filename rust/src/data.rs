@@ -38,7 +38,7 @@ pub mod code {
     pub const DONE: u32 = 0;
     /// The request is under way.
     pub const ASKED: u32 = 1;
-    /// Done, and the word shown is blank.
+    /// Done, and what is shown is blank: nobody wrote it.
     pub const BLANK: u32 = 2;
 }
 
@@ -128,9 +128,13 @@ impl Reply {
         Reply { code, value, count }
     }
 
-    /// A finished read: a word of 0 is blank.
-    pub(crate) fn shows(word: u32, count: u32) -> Reply {
-        let code = if word == 0 { code::BLANK } else { code::DONE };
+    /// A finished read of a word with this stamp.
+    pub(crate) fn shows(word: u32, stamp: &Clock, count: u32) -> Reply {
+        let code = if stamp.is_blank() {
+            code::BLANK
+        } else {
+            code::DONE
+        };
         Reply::new(code, word, count)
     }
 }
@@ -199,9 +203,9 @@ impl Message {
 pub struct Cell {
     /// Whether the desk has the cell at all.
     pub held: bool,
-    /// Its word; 0 is blank.
+    /// Its word. 0 is a word too, where somebody wrote it.
     pub word: u32,
-    /// When that word was written.
+    /// When that word was written; all zeros if nobody has, and then the cell is blank.
     pub stamp: Clock,
 }
 

@@ -228,7 +228,7 @@ struct Worker {
     arrived: Vec<Frame>,
     /// What its program wants to do next.
     wants: VecDeque<Event>,
-    /// Words written so far, so that no two writes of the run have the same.
+    /// Words written so far, so that no two writes of the run have the same; desk 0's first is 0.
     words: u32,
     /// This round so far.
     round: Round,
@@ -360,8 +360,8 @@ impl Worker {
 
     fn want_writes(&mut self, cells: &[u32]) {
         for &cell in cells {
-            self.words += 1;
             let word = u32::from(self.record.desk) << 24 | self.words;
+            self.words += 1;
             self.want(kind::WRITE, cell, word);
         }
     }

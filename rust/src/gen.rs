@@ -250,13 +250,23 @@ pub fn table(rng: &mut Rng) -> Table {
 /// A sound record, often one that no run reaches.
 pub fn record(rng: &mut Rng) -> Record {
     let table = table(rng);
-    let mut record = table.record(rng.below(u32::from(table.tray.desks)) as u8);
+    lent(&table, rng.below(u32::from(table.tray.desks)) as u8)
+}
+
+/// A desk's record as it would lend it: with the request still in its slot. What a write was sent
+/// with is not in the table any more, and the answer's word and stamp stand there instead; no rule
+/// looks at them.
+#[must_use]
+pub fn lent(table: &Table, desk: u8) -> Record {
+    let mut record = table.record(desk);
     let slot = &mut record.row.slot;
     if slot.is_answered() {
-        // Back to the request, as the desk itself still has it.
         slot.kind -= slot::ANSWER;
         if slot.kind == slot::READ_ASKED {
             (slot.word, slot.clock) = (0, Clock::ZERO);
+        } else if slot.clock == Clock::ZERO {
+            // No write is sent with a clock of zeros, though a sound table may have it answered so.
+            slot.clock.n[usize::from(desk)] = 1;
         }
     }
     record
@@ -267,32 +277,55 @@ fn sound_row(rng: &mut Rng, tray: &Tray, desk: u8) -> Row {
         clock: clock(rng, tray.desks),
         ..Row::UNUSED
     };
-    if rng.one_in(6) {
+    if rng.one_in(4) {
         // On either side of the last number there is.
         row.clock.n[usize::from(desk)] = u32::MAX - rng.below(2);
     }
     for (cell, place) in row.cells.iter_mut().zip(tray.used_places()) {
         if place.keeper == desk || rng.one_in(2) {
+            let (word, stamp) = stamped(rng, tray.desks);
             *cell = Cell {
                 held: true,
-                word: rng.edgy(),
-                stamp: clock(rng, tray.desks),
+                word,
+                stamp,
             };
         }
     }
     let cell = rng.below(u32::from(tray.cells)) as u8;
     if !tray.keeps(desk, cell) && rng.one_in(2) {
         row.served = rng.one_in(2);
-        row.slot = Slot {
-            kind: 1 + rng.below(4) as u8,
-            cell,
-            ..Slot::EMPTY
+        let kind = 1 + rng.below(4) as u8;
+        let (word, clock) = match kind {
+            slot::READ_ASKED => (0, Clock::ZERO),
+            slot::WRITE_ASKED => sent(rng, tray.desks),
+            _ => stamped(rng, tray.desks),
         };
-        if row.slot.kind != slot::READ_ASKED {
-            (row.slot.word, row.slot.clock) = (rng.edgy(), clock(rng, tray.desks));
-        }
+        row.slot = Slot {
+            kind,
+            cell,
+            word,
+            clock,
+        };
     }
     row
+}
+
+/// A word and its stamp as they may stand together: in six of them one blank and one written 0.
+fn stamped(rng: &mut Rng, desks: u8) -> (u32, Clock) {
+    match rng.below(6) {
+        0 => (0, Clock::ZERO),
+        1 => (0, clock(rng, desks)),
+        _ => sent(rng, desks),
+    }
+}
+
+/// A word and a clock that is not all zeros, as a write is sent with.
+fn sent(rng: &mut Rng, desks: u8) -> (u32, Clock) {
+    let mut clock = clock(rng, desks);
+    if clock == Clock::ZERO {
+        clock.n[rng.index(desks.into())] = rng.nonzero();
+    }
+    (rng.edgy(), clock)
 }
 
 /// A clock of so many desks: small numbers, so that before, equal and beside all happen, or edges.
@@ -379,6 +412,12 @@ pub const BREAKS: &[(&str, Break)] = &[
         not_held(rng, t)
             .is_some_and(|(d, c)| set(&mut t.rows[d].cells[c].stamp.n[number], rng.nonzero()))
     }),
+    ("a blank with a word", |rng, t| {
+        let (desk, cell) = held(rng, t);
+        let cell = &mut t.rows[desk].cells[cell];
+        (cell.word, cell.stamp) = (rng.nonzero(), Clock::ZERO);
+        true
+    }),
     ("a slot of no kind", |rng, t| {
         let desk = rng.index(DESKS);
         set(&mut t.rows[desk].slot.kind, 5 + rng.below(251) as u8)
@@ -421,6 +460,16 @@ pub const BREAKS: &[(&str, Break)] = &[
         let number = present(rng, t);
         waiting(rng, t, &[1])
             .is_some_and(|d| set(&mut t.rows[d].slot.clock.n[number], rng.nonzero()))
+    }),
+    ("a write asked with a clock of zeros", |rng, t| {
+        waiting(rng, t, &[2]).is_some_and(|d| set(&mut t.rows[d].slot.clock, Clock::ZERO))
+    }),
+    ("a blank answered with a word", |rng, t| {
+        waiting(rng, t, &[3, 4]).is_some_and(|d| {
+            let slot = &mut t.rows[d].slot;
+            (slot.word, slot.clock) = (rng.nonzero(), Clock::ZERO);
+            true
+        })
     }),
     ("served without waiting", |rng, t| {
         waiting(rng, t, &[0]).is_some_and(|d| set(&mut t.rows[d].served, true))
@@ -500,14 +549,15 @@ fn around(record: &Record) -> Table {
     table
 }
 
-/// Sets one field anywhere in the table, used or not, to any value. The table may stay sound.
+/// Sets one field anywhere in the table, used or not, to any value, or one clock to zeros. The table
+/// may stay sound.
 pub fn scramble(rng: &mut Rng, table: &mut Table) {
     let byte = rng.edgy() as u8;
     let word = rng.edgy();
     let row = &mut table.rows[rng.index(DESKS)];
     let cell = &mut row.cells[rng.index(CELLS)];
     let number = rng.index(DESKS);
-    match rng.below(12) {
+    match rng.below(14) {
         0 => table.tray.desks = byte,
         1 => table.tray.cells = byte,
         2 => table.tray.places[rng.index(CELLS)].keeper = byte,
@@ -519,6 +569,8 @@ pub fn scramble(rng: &mut Rng, table: &mut Table) {
         8 => row.slot.cell = byte,
         9 => row.slot.word = word,
         10 => row.slot.clock.n[number] = word,
+        11 => cell.stamp = Clock::ZERO,
+        12 => row.slot.clock = Clock::ZERO,
         _ => row.served = !row.served,
     }
 }
@@ -619,12 +671,21 @@ fn waiting(rng: &mut Rng, table: &Table, kinds: &[u8]) -> Option<usize> {
     })
 }
 
+/// A desk and a cell that are there, the cell held.
+fn held(rng: &mut Rng, table: &Table) -> (usize, usize) {
+    place_of(rng, table, true).expect("a keeper holds its cells")
+}
+
 /// A desk and a cell that are there, the cell not held, if there are any.
 fn not_held(rng: &mut Rng, table: &Table) -> Option<(usize, usize)> {
+    place_of(rng, table, false)
+}
+
+fn place_of(rng: &mut Rng, table: &Table, held: bool) -> Option<(usize, usize)> {
     let cells = usize::from(table.tray.cells);
     let places = 0..usize::from(table.tray.desks) * cells;
     some(rng, places, |&place| {
-        !table.rows[place / cells].cells[place % cells].held
+        table.rows[place / cells].cells[place % cells].held == held
     })
     .map(|place| (place / cells, place % cells))
 }
@@ -639,7 +700,7 @@ fn some<T>(rng: &mut Rng, from: impl Iterator<Item = T>, pass: impl Fn(&T) -> bo
     Some(passed.swap_remove(chosen))
 }
 
-/// A message that has a frame.
+/// A message that has a frame; it fits nowhere if what it says was written has a clock of zeros.
 pub fn message(rng: &mut Rng) -> Message {
     let desks = 2 + rng.below(7) as u8;
     let kind = 1 + rng.below(4) as u8;
@@ -651,7 +712,10 @@ pub fn message(rng: &mut Rng) -> Message {
         ..Message::ZERO
     };
     if kind != slot::READ_ASKED {
-        (message.word, message.clock) = (rng.edgy(), clock(rng, desks));
+        message.word = rng.edgy();
+        if !rng.one_in(6) {
+            message.clock = clock(rng, desks);
+        }
     }
     message
 }
@@ -694,28 +758,31 @@ pub fn message_for(rng: &mut Rng, record: &Record) -> Message {
         tray.places[usize::from(cell)].keeper == record.desk
     });
     let another = u32::from(record.desk) + 1 + rng.below(u32::from(desks).max(2) - 1);
+    let (word, clock) = sent(rng, desks);
     let mut message = Message {
         kind: 1 + rng.below(2) as u8,
         desks: tray.desks,
         desk: another as u8 % desks,
         cell: kept.unwrap_or_else(|| rng.below(cells.into()) as u8),
-        word: rng.edgy(),
-        clock: clock(rng, desks),
+        word,
+        clock,
     };
     let asked = &record.row.slot;
     if asked.is_asked() && rng.one_in(2) {
         message.kind = asked.kind + slot::ANSWER;
         message.desk = record.desk;
         message.cell = asked.cell;
+        (message.word, message.clock) = stamped(rng, desks);
     }
     if rng.one_in(4) {
         let small = rng.below(10) as u8;
-        match rng.below(6) {
+        match rng.below(7) {
             0 => message.kind = small,
             1 => message.desks = small,
             2 => message.desk = small,
             3 => message.cell = rng.edgy() as u8,
             4 => message.word = 0,
+            5 => message.clock = Clock::ZERO,
             _ => message.clock.n[rng.index(DESKS)] = rng.edgy(),
         }
     }

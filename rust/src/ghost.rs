@@ -1,8 +1,9 @@
 //! The rules once more, told at leisure, with a ghost beside every word: the write it came from.
 //!
 //! A ghost travels with its word wherever that goes, so that a read's source is known without
-//! guessing from equal words. With no shortcut the replies and rows are the twin's (the tests hold
-//! it to that); with one, the history shows whether demand 3 notices.
+//! guessing from equal words. Blank is here what came from no write, whatever its stamp. With no
+//! shortcut the replies and rows are the twin's (the tests hold it to that); with one, the history
+//! shows whether demand 3 notices.
 
 use crate::data::{code, kind, slot};
 use crate::history::{Does, Operation};
@@ -30,6 +31,9 @@ struct Datum {
     stamp: Clock,
     from: Option<usize>,
 }
+
+/// A write before the run: no history has it.
+const BEFORE: usize = usize::MAX;
 
 const BLANK: Datum = Datum {
     word: 0,
@@ -135,13 +139,14 @@ impl Ghost {
         }
     }
 
-    /// A sound table as it stands, though nobody knows where its words came from.
+    /// A sound table as it stands, though nobody knows which writes its words came from: only that
+    /// what has a stamp came from one.
     #[must_use]
     pub fn amid(table: &Table) -> Ghost {
         let datum = |word, stamp| Datum {
             word,
             stamp,
-            from: None,
+            from: (stamp != Clock::ZERO).then_some(BEFORE),
         };
         let mut ghost = Ghost::new(&table.tray, None);
         for (desk, row) in ghost.desks.iter_mut().zip(table.rows) {
@@ -326,12 +331,10 @@ impl Ghost {
             word: datum.word,
             does: Does::Read(datum.from),
         });
-        let code = if datum.word == 0 {
-            code::BLANK
-        } else {
-            code::DONE
-        };
-        Reply::new(code, datum.word, count)
+        match datum.from {
+            None => Reply::new(code::BLANK, 0, count),
+            Some(_) => Reply::new(code::DONE, datum.word, count),
+        }
     }
 
     /// `desk` asked the write, `keeper` stores it.

@@ -40,7 +40,7 @@ pub struct Operation {
 pub enum Does {
     /// It stores its word.
     Write,
-    /// It shows the word of the write at this place of the history, or blank.
+    /// It shows the word of the write at this place of the history, which may be 0, or blank.
     Read(Option<usize>),
 }
 

@@ -2,7 +2,7 @@
 
 use crate::data::{code, kind, slot};
 use crate::rules::Rules;
-use crate::{Event, Message, Plan, Refusal, Reply, Row, Tray};
+use crate::{Clock, Event, Message, Plan, Refusal, Reply, Row, Tray};
 
 /// The record of one desk: its row of the table, with the tray and the desk's number.
 #[repr(C)]
@@ -76,8 +76,13 @@ impl Record {
 
     fn try_serve(&mut self, request: &Message) -> Result<(Reply, Message), Refusal> {
         self.check()?;
-        let fits = self.fits(request)
-            && matches!(request.kind, slot::READ_ASKED | slot::WRITE_ASKED)
+        let is_request = match request.kind {
+            slot::READ_ASKED => true, // its word and clock are ignored
+            slot::WRITE_ASKED => request.clock != Clock::ZERO,
+            _ => false,
+        };
+        let fits = is_request
+            && self.fits(request)
             && request.desk != self.desk
             && request.desk < self.tray.desks
             && self.tray.keeps(self.desk, request.cell);
@@ -96,7 +101,8 @@ impl Record {
         let fits = self.fits(answer)
             && answer.desk == self.desk
             && answer.cell == self.row.slot.cell
-            && answer.kind == self.row.slot.kind + slot::ANSWER;
+            && answer.kind == self.row.slot.kind + slot::ANSWER
+            && answer.clock.may_stamp(answer.word);
         if !fits {
             return Err(Refusal::Unfit);
         }

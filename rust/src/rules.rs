@@ -14,12 +14,15 @@ impl Row {
     }
 
     /// The held cells as bits, and the numbers of the clock and of all stamps laid over each other;
-    /// nothing if something is left in a cell not held.
+    /// nothing if something is left in a cell not held, or a blank has a word.
     fn scan(&self) -> Option<(u32, Clock)> {
         let mut held = 0;
         let mut numbers = self.clock;
         for (i, cell) in self.cells.iter().enumerate() {
             if cell.held {
+                if !cell.stamp.may_stamp(cell.word) {
+                    return None;
+                }
                 held |= 1 << i;
                 for (all, number) in numbers.n.iter_mut().zip(cell.stamp.n) {
                     *all |= number;
@@ -33,17 +36,17 @@ impl Row {
 
     fn has_sound_slot(&self, tray: &Tray, desk: u8) -> bool {
         let slot = &self.slot;
-        match slot.kind {
-            slot::EMPTY => *slot == Slot::EMPTY && !self.served,
-            slot::READ_ASKED..=slot::WRITE_ANSWERED => {
-                slot.cell < tray.cells
-                    && !tray.keeps(desk, slot.cell)
-                    && slot.clock.fits(tray.desks as usize)
-                    && (slot.kind != slot::READ_ASKED
-                        || (slot.word == 0 && slot.clock == Clock::ZERO))
-            }
+        let has_sound_clock = match slot.kind {
+            slot::EMPTY => return *slot == Slot::EMPTY && !self.served,
+            slot::READ_ASKED => slot.word == 0 && slot.clock == Clock::ZERO,
+            slot::WRITE_ASKED => slot.clock != Clock::ZERO,
+            slot::READ_ANSWERED | slot::WRITE_ANSWERED => slot.clock.may_stamp(slot.word),
             _ => false,
-        }
+        };
+        has_sound_clock
+            && slot.cell < tray.cells
+            && !tray.keeps(desk, slot.cell)
+            && slot.clock.fits(tray.desks as usize)
     }
 }
 
@@ -74,7 +77,7 @@ impl Rules<'_> {
     fn read(&mut self, cell: u8) -> Reply {
         let here = &self.row.cells[cell as usize];
         if here.held {
-            return Reply::shows(here.word, 0);
+            return Reply::shows(here.word, &here.stamp, 0);
         }
         self.ask(Slot {
             kind: slot::READ_ASKED,
@@ -160,7 +163,7 @@ impl Rules<'_> {
         self.row.slot = Slot::EMPTY;
         self.row.served = false;
         if answer.kind == slot::READ_ANSWERED {
-            Reply::shows(answer.word, count)
+            Reply::shows(answer.word, &answer.clock, count)
         } else {
             Reply::new(code::DONE, answer.word, count)
         }

@@ -4,11 +4,11 @@
 //! argument in `history`, and both answers are held against an exhaustive search over line-ups.
 
 use twin::cases::script_named;
-use twin::data::kind;
+use twin::data::{code, kind};
 use twin::gen::{self, Mood, Rng};
 use twin::ghost::{Ghost, Shortcut};
 use twin::history::{line_up, Broken, Causal, Does, History, Operation};
-use twin::{Event, Plan, Table, Tray};
+use twin::{Event, Plan, Reply, Table, Tray};
 
 /// Causal order by its definition: who precedes whom, chains by walking until nothing is new.
 fn precedes(history: &History) -> Vec<Vec<bool>> {
@@ -56,6 +56,17 @@ fn explains(history: &History, precedes: &[Vec<bool>], desk: u8, line: &[usize])
         }
     });
     sorted == view(history, desk) && goes_up && shows_nearest
+}
+
+/// Whether a reply tells what the run says. To a read that is now done it is code 2 and 0 if that
+/// comes from no write, else code 0 and the write's word, which may be 0; nothing else is code 2.
+fn tells(history: &History, done: Option<&Operation>, reply: &Reply) -> bool {
+    let told = (reply.code, reply.value);
+    match done.map(|operation| operation.does) {
+        Some(Does::Read(None)) => told == (code::BLANK, 0),
+        Some(Does::Read(Some(write))) => told == (code::DONE, history[write].word),
+        Some(Does::Write) | None => reply.code != code::BLANK,
+    }
 }
 
 /// The oracle: tries every line-up there is.
@@ -148,7 +159,7 @@ fn the_decision_is_exact_on_all_histories_of_five_operations() {
                     Operation {
                         desk: (bits & 1) as u8,
                         cell: (bits >> 1 & 1) as u8,
-                        word: place + 1,
+                        word: place, // so one that is written may be 0
                         does: match bits >> 2 & 1 {
                             0 => Does::Write,
                             _ => Does::Read(None),
@@ -177,7 +188,7 @@ fn the_decision_is_exact_on_random_histories() {
             .map(|place| Operation {
                 desk: rng.below(desks.into()) as u8,
                 cell: rng.below(cells) as u8,
-                word: place as u32 + 1,
+                word: place as u32,
                 does: Does::Write,
             })
             .collect();
@@ -257,6 +268,8 @@ struct Seen {
     served_waiting: u64,
     brought_served: u64,
     dropped: u64,
+    blanks: u64,
+    zeros: u64,
     operations: usize,
     longest: usize,
     line_ups: u64,
@@ -271,9 +284,19 @@ fn check_run(seed: u64, events: u32, seen: &mut Seen) {
     for _ in 0..events {
         let event = mood.event_at(&mut rng, &table);
         let before = table;
+        let known = ghost.history().len();
         let reply = table.event(&event);
         assert_eq!(reply, ghost.event(&event), "seed {seed}, {event:?}");
         assert!(ghost.agrees(&table), "seed {seed}, after {event:?}");
+        let done = ghost.history().get(known);
+        assert!(
+            tells(ghost.history(), done, &reply),
+            "seed {seed}: {reply:?} to {done:?}"
+        );
+        if let Some(Does::Read(from)) = done.map(|operation| operation.does) {
+            seen.blanks += u64::from(from.is_none());
+            seen.zeros += u64::from(from.is_some() && reply.value == 0);
+        }
         seen.events += 1;
         seen.dropped += u64::from(reply.count);
         if reply.code >= 8 {
@@ -319,6 +342,45 @@ fn every_desk_of_every_run_has_its_line_up() {
         "{seen:?}"
     );
     assert!(seen.dropped > 20_000 && seen.longest > 300, "{seen:?}");
+    assert!(seen.blanks > 10_000 && seen.zeros > 5_000, "{seen:?}");
+}
+
+#[test]
+fn another_meaning_of_blank_is_noticed() {
+    type Bend = fn(Reply) -> Reply;
+    let bends: [(&str, Bend); 3] = [
+        ("a written 0 is blank", |reply| match reply.value {
+            0 => Reply::new(code::BLANK, 0, reply.count),
+            _ => reply,
+        }),
+        ("nothing is blank", |reply| {
+            Reply::new(code::DONE, reply.value, reply.count)
+        }),
+        ("a blank has a word", |reply| match reply.code {
+            code::BLANK => Reply { value: 1, ..reply },
+            _ => reply,
+        }),
+    ];
+    for (what, bend) in bends {
+        let noticed = (0..100).filter(|&seed| {
+            let mut rng = Rng::new(seed);
+            let mut table = Table::new(&gen::good_setup(&mut rng, 2)).expect("a good set-up");
+            let mut ghost = Ghost::new(&table.tray, None);
+            let mood = Mood::new(&mut rng);
+            (0..80).any(|_| {
+                let event = mood.event_at(&mut rng, &table);
+                let known = ghost.history().len();
+                let reply = table.event(&event);
+                ghost.event(&event);
+                let done = ghost.history().get(known);
+                let is_read = done.is_some_and(|operation| operation.does != Does::Write);
+                is_read && !tells(ghost.history(), done, &bend(reply))
+            })
+        });
+        let noticed = noticed.count();
+        println!("{what}: noticed in {noticed} of 100 runs");
+        assert!(noticed > 30, "{what}: only in {noticed}");
+    }
 }
 
 /// Runs of 400 events in which some desk has no line-up, of so many.
@@ -418,7 +480,7 @@ fn the_other_two_never_break_demand_3_yet_are_not_the_rules() {
     }
 }
 
-/// Writes and reads by desk, cell and source; the word of a write is its place plus one.
+/// Writes and reads by desk, cell and source; the word of a write is its place, so the first is 0.
 fn told(operations: &[(u8, u8, Does)]) -> Vec<Operation> {
     operations
         .iter()
@@ -428,8 +490,8 @@ fn told(operations: &[(u8, u8, Does)]) -> Vec<Operation> {
             cell,
             does,
             word: match does {
-                Does::Write => place as u32 + 1,
-                Does::Read(from) => from.map_or(0, |write| write as u32 + 1),
+                Does::Write => place as u32,
+                Does::Read(from) => from.map_or(0, |write| write as u32),
             },
         })
         .collect()
@@ -485,4 +547,17 @@ fn each_clause_alone_is_seen() {
     let mut made_up = told(&[(1, datum, Write), (0, datum, Read(Some(0)))]);
     made_up[1].word = 7;
     assert_eq!(line_up(&made_up, 0), Err(Broken::Source(1)));
+    // Of two reads that show 0, one may come from a write and one from none.
+    let zero = told(&[
+        (1, datum, Write),
+        (0, datum, Read(None)),
+        (0, datum, Read(Some(0))),
+    ]);
+    assert_eq!(line_up(&zero, 0), Ok(vec![1, 0, 2]));
+    let back = told(&[
+        (1, datum, Write),
+        (0, datum, Read(Some(0))),
+        (0, datum, Read(None)),
+    ]);
+    assert_eq!(line_up(&back, 0), Err(Broken::Blank(2)));
 }

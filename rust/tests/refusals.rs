@@ -1,8 +1,8 @@
 //! Soundness and refusals, held against the requirements told line by line; and the table held
 //! against the ghost and against the desks' parts.
 
-use twin::data::{kind, slot};
-use twin::gen::{self, Mood, Poke, Rng, BREAKS};
+use twin::data::kind;
+use twin::gen::{self, lent, Mood, Poke, Rng, BREAKS};
 use twin::ghost::Ghost;
 use twin::{Cell, Clock, Event, Message, Place, Plan, Record, Reply, Row, Slot, Table};
 
@@ -29,10 +29,18 @@ fn is_sound(table: &Table) -> bool {
                     .cells
                     .iter()
                     .all(|cell| cell.held || *cell == Cell::default())
+                && row
+                    .cells
+                    .iter()
+                    .all(|cell| !is_blank_with_a_word(cell.word, &cell.stamp))
                 && (cells..32).all(|cell| row.cells[cell] == Cell::default())
                 && (row.slot.kind != 0 || !row.served)
                 && has_sound_slot(table, desk)
         })
+}
+
+fn is_blank_with_a_word(word: u32, stamp: &Clock) -> bool {
+    stamp.n == [0; 8] && word != 0
 }
 
 fn has_sound_slot(table: &Table, desk: usize) -> bool {
@@ -47,7 +55,8 @@ fn has_sound_slot(table: &Table, desk: usize) -> bool {
     match kind {
         0 => cell == 0 && word == 0 && clock == Clock::ZERO,
         1 => names_a_cell && word == 0 && clock == Clock::ZERO,
-        2..=4 => names_a_cell,
+        2 => names_a_cell && clock != Clock::ZERO,
+        3 | 4 => names_a_cell && !is_blank_with_a_word(word, &clock),
         _ => false,
     }
 }
@@ -129,6 +138,15 @@ fn fits(record: &Record, message: &Message) -> bool {
     message.desks == record.tray.desks && message.clock.n[past..].iter().all(|&n| n == 0)
 }
 
+/// What it says was written has a clock that says so. A read asked says nothing of the kind.
+fn is_stamped(message: &Message) -> bool {
+    match message.kind {
+        2 => message.clock != Clock::ZERO,
+        3 | 4 => !is_blank_with_a_word(message.word, &message.clock),
+        _ => true,
+    }
+}
+
 fn serve_refusal(record: &Record, message: &Message) -> u32 {
     if !is_sound_record(record) {
         return 9;
@@ -137,7 +155,7 @@ fn serve_refusal(record: &Record, message: &Message) -> u32 {
     let by_another = message.desk < record.tray.desks && message.desk != record.desk;
     let kept_here = message.cell < record.tray.cells
         && record.tray.places[message.cell as usize].keeper == record.desk;
-    if fits(record, message) && is_request && by_another && kept_here {
+    if fits(record, message) && is_request && by_another && kept_here && is_stamped(message) {
         0
     } else {
         15
@@ -156,7 +174,7 @@ fn bring_refusal(record: &Record, message: &Message) -> u32 {
         && message.cell == asked.cell
         && (message.kind, asked.kind) != (0, 0)
         && ((message.kind == 3 && asked.kind == 1) || (message.kind == 4 && asked.kind == 2));
-    if fits(record, message) && as_asked {
+    if fits(record, message) && as_asked && is_stamped(message) {
         0
     } else {
         15
@@ -232,8 +250,20 @@ fn every_event_is_refused_by_the_first_line_that_applies() {
 #[test]
 fn every_desks_part_refuses_by_the_first_line_that_applies() {
     let (mut events, mut serves, mut brings) = (Tally::new(), Tally::new(), Tally::new());
+    // What is refused for its clock of zeros alone: served, and brought.
+    let mut unstamped = [0; 2];
     for seed in 0..150_000 {
         let (given, event, message) = gen::given(seed);
+        let with_a_clock = Message {
+            clock: given.row.clock,
+            ..message
+        };
+        if !is_stamped(&message) && is_stamped(&with_a_clock) {
+            for (refusal, count) in [serve_refusal, bring_refusal].iter().zip(&mut unstamped) {
+                let only_that = (refusal(&given, &message), refusal(&given, &with_a_clock));
+                *count += i32::from(only_that == (15, 0));
+            }
+        }
         // What is refused, and the code that comes with a message.
         let hold = |tally: &mut Tally, number, sends, step: &dyn Fn(&mut Record) -> _| {
             let mut record = given;
@@ -257,6 +287,8 @@ fn every_desks_part_refuses_by_the_first_line_that_applies() {
     events.expect("a part's events", &[0, 8, 9, 11, 12, 14, 16]);
     serves.expect("serve", &[0, 9, 15]);
     brings.expect("bring", &[0, 9, 13, 15]);
+    println!("refused for a clock of zeros alone: {unstamped:?}");
+    assert!(unstamped.iter().all(|&count| count >= 100), "{unstamped:?}");
 }
 
 fn check_part(seed: u64, number: u32, code: u32, given: &Record, after: &Record) {
@@ -445,18 +477,6 @@ fn the_tables_take_and_bring_are_the_desks_serve_and_bring() {
     }
     println!("events by kind, table against parts: {:?}", &counts[1..]);
     assert!(counts[1..].iter().all(|&count| count > 1_000), "{counts:?}");
-}
-
-/// A desk's record as it would lend it: with the request still in its slot.
-fn lent(table: &Table, desk: u8) -> Record {
-    let mut record = table.record(desk);
-    let slot = &mut record.row.slot;
-    if slot.is_answered() {
-        slot.kind -= slot::ANSWER;
-        // What was sent with a request is not in the table any more, and no rule looks at it.
-        (slot.word, slot.clock) = (0, Clock::ZERO);
-    }
-    record
 }
 
 #[test]

@@ -139,11 +139,78 @@ fn one_desk_reads_what_it_wrote() {
     assert_eq!(does(&mut table, 1, 0, 0, 99), (0, 7, 0));
     assert_eq!(table.rows[0].clock, clock(&[1]));
     assert_eq!(table.rows[0].cells[0].stamp, clock(&[1]));
-    // A written 0 is blank to read, but the writing of it is done.
+    // A 0 that was written is a word.
     assert_eq!(does(&mut table, 2, 0, 0, 0), (0, 0, 0));
-    assert_eq!(does(&mut table, 1, 0, 0, 0), (2, 0, 0));
+    assert_eq!(does(&mut table, 1, 0, 0, 0), (0, 0, 0));
     assert_eq!(does(&mut table, 3, 0, 0, 0), (13, 0, 0));
     assert_eq!(does(&mut table, 4, 0, 0, 0), (13, 0, 0));
+}
+
+#[test]
+fn only_what_nobody_wrote_is_blank() {
+    // Desk 0 keeps the latitude and desk 1 the longitude.
+    let mut table = table(2, &[0, 1]);
+    assert_eq!(fetch(&mut table, 1, 1, 0, 0), (2, 0, 0));
+    assert_eq!(does(&mut table, 1, 1, 0, 0), (2, 0, 0));
+    // Latitude 0, by its keeper: desk 1's copy is as old as it was, and the next one is not blank.
+    assert_eq!(does(&mut table, 2, 0, 0, 0), (0, 0, 0));
+    assert_eq!(does(&mut table, 1, 1, 0, 0), (2, 0, 0));
+    assert_eq!(does(&mut table, 5, 1, 0, 0), (0, 0, 1));
+    assert_eq!(fetch(&mut table, 1, 1, 0, 0), (0, 0, 0));
+    assert_eq!(does(&mut table, 1, 1, 0, 0), (0, 0, 0));
+    // Longitude 0, by the other desk: at its keeper it is no blank either.
+    assert_eq!(does(&mut table, 1, 1, 1, 0), (2, 0, 0));
+    assert_eq!(fetch(&mut table, 2, 0, 1, 0), (0, 0, 0));
+    assert_eq!([0, 1].map(|desk| does(&mut table, 1, desk, 1, 0).0), [0; 2]);
+}
+
+#[test]
+fn a_stamp_of_zeros_has_no_word_and_no_write_is_sent_with_one() {
+    // Desk 0 keeps cell 0 and waits for cell 1.
+    let given = table(2, &[0, 1]);
+    let is_sound = |change: &dyn Fn(&mut Row)| {
+        let mut table = given;
+        change(&mut table.rows[0]);
+        assert_eq!(
+            does(&mut table, 1, 1, 1, 0).0,
+            if table.is_sound() { 2 } else { 9 }
+        );
+        table.is_sound()
+    };
+    let stamps = [Clock::ZERO, clock(&[1]), clock(&[0, 1])];
+    for (stamp, word, is_good) in [
+        (stamps[0], 0, true),
+        (stamps[0], 1, false),
+        (stamps[0], u32::MAX, false),
+        (stamps[1], 0, true),
+        (stamps[1], 1, true),
+        (stamps[2], 0, true),
+        (stamps[2], 1, true),
+    ] {
+        let what = (stamp, word);
+        let here = Cell {
+            held: true,
+            word,
+            stamp,
+        };
+        // A kept cell, and a copy.
+        assert_eq!(is_sound(&|row| row.cells[0] = here), is_good, "{what:?}");
+        assert_eq!(is_sound(&|row| row.cells[1] = here), is_good, "{what:?}");
+        for kind in [2, 3, 4] {
+            let slot = Slot {
+                kind,
+                cell: 1,
+                word,
+                clock: stamp,
+            };
+            let is_good = if kind == 2 {
+                stamp != Clock::ZERO
+            } else {
+                is_good
+            };
+            assert_eq!(is_sound(&|row| row.slot = slot), is_good, "{slot:?}");
+        }
+    }
 }
 
 #[test]
@@ -247,7 +314,7 @@ fn a_taken_write_drops_what_is_strictly_before_the_sent_clock() {
 
 #[test]
 fn a_brought_answer_drops_other_copies_strictly_before_its_stamp() {
-    for (asked, word, code) in [(1, 0, 2), (1, 6, 0), (2, 0, 0), (2, 6, 0)] {
+    for (asked, word, code) in [(1, 0, 0), (1, 6, 0), (2, 0, 0), (2, 6, 0)] {
         // Desk 0 keeps cell 4, has copies of 0 to 3 and waits for cell 0.
         let mut table = table(2, &[1, 1, 1, 1, 0]);
         let stamps = [[0, 1], [0, 2], [0, 3], [1, 0], [0, 1]];
@@ -405,13 +472,16 @@ fn a_request_fits_or_is_refused() {
     assert_eq!(reply, Reply::new(0, 0, 0));
     assert_eq!(answer, Message { kind: 4, ..good });
     // A read's word and clock are ignored, where the clock has no number past the count.
-    let (reply, answer) = part.serve(&Message {
-        kind: 1,
-        word: 3,
-        ..good
-    });
-    assert_eq!(reply, Reply::new(0, 0, 0));
-    assert_eq!(answer, Message { kind: 3, ..good });
+    for clock in [good.clock, Clock::ZERO] {
+        let (reply, answer) = part.serve(&Message {
+            kind: 1,
+            word: 3,
+            clock,
+            ..good
+        });
+        assert_eq!(reply, Reply::new(0, 0, 0));
+        assert_eq!(answer, Message { kind: 3, ..good });
+    }
     let given = part;
     for unfit in [
         Message { kind: 0, ..good },
@@ -425,6 +495,15 @@ fn a_request_fits_or_is_refused() {
         Message { cell: 255, ..good },
         Message {
             clock: clock(&[0, 1, 1]),
+            ..good
+        },
+        Message {
+            clock: Clock::ZERO,
+            ..good
+        },
+        Message {
+            word: 0,
+            clock: Clock::ZERO,
             ..good
         },
     ] {
@@ -466,6 +545,10 @@ fn an_answer_fits_or_is_refused() {
             clock: clock(&[0, 1, 1]),
             ..good
         },
+        Message {
+            clock: Clock::ZERO,
+            ..good
+        },
     ] {
         assert_eq!(part.bring(&unfit), Reply::new(15, 0, 0), "{unfit:?}");
         assert_eq!(part, given);
@@ -474,6 +557,46 @@ fn an_answer_fits_or_is_refused() {
     assert_eq!(part.row.clock, good.clock);
     part.row.served = true;
     assert_eq!(part.bring(&good), Reply::new(9, 0, 0));
+}
+
+#[test]
+fn an_answer_is_blank_by_its_stamp() {
+    for (asked, word, stamp, code) in [
+        (1, 0, clock(&[]), 2),
+        (1, 0, clock(&[0, 1]), 0),
+        (1, 9, clock(&[]), 15),
+        (2, 0, clock(&[]), 0),
+        (2, 0, clock(&[0, 1]), 0),
+        (2, 9, clock(&[]), 15),
+    ] {
+        let mut part = record();
+        assert_eq!(part.event(&event(asked, 0, 1, 7)).0.code, 1);
+        let answer = Message {
+            kind: asked as u8 + 2,
+            desks: 2,
+            desk: 0,
+            cell: 1,
+            word,
+            clock: stamp,
+        };
+        assert_eq!(part.bring(&answer), Reply::new(code, 0, 0), "{answer:?}");
+        assert_eq!(part.row.cells[1].held, code != 15, "{answer:?}");
+    }
+}
+
+#[test]
+fn frames_carry_what_does_not_fit() {
+    for kind in [2, 3, 4] {
+        let message = Message {
+            kind,
+            desks: 2,
+            word: 9,
+            ..Message::ZERO
+        };
+        let mut out = [0; 19];
+        assert_eq!(frame::write(&message, &mut out), Ok(19));
+        assert_eq!(frame::read(&out), Ok((message, 19)));
+    }
 }
 
 #[test]

@@ -15,9 +15,9 @@ pub struct Desk {
 /// What becomes of a read.
 #[derive(Clone, Copy, Debug, PartialEq, Eq)]
 pub enum Read {
-    /// The word, from the desk's own cell or copy. Never 0.
+    /// The word, from the desk's own cell or copy. 0 is a word like any other: somebody wrote it.
     Shown(u32),
-    /// The desk holds the cell, and it is blank.
+    /// The desk holds the cell, and it is blank: it knows of no write.
     Blank,
     /// The desk does not hold the cell: send this to its keeper.
     Asked(Frame),
@@ -53,9 +53,9 @@ pub struct Brought {
 /// What an answer says.
 #[derive(Clone, Copy, Debug, PartialEq, Eq)]
 pub enum Told {
-    /// The word read. Never 0.
+    /// The word read, which may be 0.
     Shown(u32),
-    /// The cell read was blank.
+    /// The cell read was blank: nobody had written it when its keeper answered.
     Blank,
     /// The word that the desk wrote is stored at the keeper.
     Stored(u32),
@@ -91,6 +91,15 @@ impl Desk {
     }
 
     /// Shows a cell's word: 11, 12.
+    ///
+    /// ```
+    /// use cwmorlais::{Desk, Plan, Read, Refusal, Write};
+    /// let mut desk = Desk::start(&Plan::new(1, &[0]), 0)?;
+    /// assert_eq!(desk.read(0)?, Read::Blank);
+    /// assert_eq!(desk.write(0, 0)?, Write::Stored); // a sheet from the equator
+    /// assert_eq!(desk.read(0)?, Read::Shown(0));
+    /// # Ok::<(), Refusal>(())
+    /// ```
     pub fn read(&mut self, cell: u32) -> Result<Read, Refusal> {
         let Answer { reply, message } = self.event(READ, cell, 0);
         match reply.code {
@@ -101,7 +110,7 @@ impl Desk {
         }
     }
 
-    /// Writes a word; 0 makes the cell blank: 11, 12, 16.
+    /// Writes a word, which may be 0; nothing makes a cell blank again: 11, 12, 16.
     pub fn write(&mut self, cell: u32, word: u32) -> Result<Write, Refusal> {
         let Answer { reply, message } = self.event(WRITE, cell, word);
         match reply.code {

@@ -12,20 +12,22 @@ pub struct Clock {
     pub n: [u32; 8],
 }
 
-/// What a desk has of one cell. A cell that is not held has word 0 and the zero stamp.
+/// What a desk has of one cell. It is blank exactly if its stamp is all zeros; its word is then 0,
+/// or the record is not sound. A cell that is not held has word 0 and the zero stamp.
 #[repr(C)]
 #[derive(Clone, Copy, Debug, Default, PartialEq, Eq)]
 pub struct Cell {
     /// Whether the desk has it at all.
     pub held: bool,
-    /// Its word; 0 is blank.
+    /// Its word. 0 is a word too, where somebody wrote it.
     pub word: u32,
-    /// When that word was written.
+    /// When that word was written; all zeros if nobody has.
     pub stamp: Clock,
 }
 
 /// What a desk waits for: kind 0 nothing, 1 read asked, 2 write asked (word, sent clock); in a
-/// table also 3 read answered, 4 write answered (word, stamp).
+/// table also 3 read answered, 4 write answered (word, stamp). A sent clock is not all zeros; where
+/// a stamp is, the word is 0.
 #[repr(C)]
 #[derive(Clone, Copy, Debug, Default, PartialEq, Eq)]
 pub struct Slot {
@@ -141,7 +143,7 @@ pub struct Event {
     pub word: u32,
 }
 
-/// Codes 0 done, 1 asked, 2 blank; any other is a refusal.
+/// Codes 0 done, 1 asked, 2 blank: a read of what nobody wrote; any other is a refusal.
 #[repr(C)]
 #[derive(Clone, Copy, Debug, Default, PartialEq, Eq)]
 pub struct Reply {
@@ -154,7 +156,8 @@ pub struct Reply {
 }
 
 /// What desks send each other: kinds 1 read asked, 2 write asked, 3 read answered, 4 write
-/// answered.
+/// answered. Word and clock are as in a [`Slot`], or the message fits no desk (15), though it has a
+/// frame; those of a read asked are ignored.
 #[repr(C)]
 #[derive(Clone, Copy, Debug, Default, PartialEq, Eq)]
 pub struct Message {

@@ -63,14 +63,14 @@ pub enum Event {
 pub enum Done {
     /// Code 0.
     Done {
-        /// The word read or written, where there is one to show.
+        /// The word read or written, where there is one to show; it may be 0.
         value: u32,
         /// Copies dropped.
         dropped: u32,
     },
     /// Code 1: the request is under way.
     Asked,
-    /// Code 2: a blank was read.
+    /// Code 2: a blank was read, which nobody has written.
     Blank {
         /// Copies dropped.
         dropped: u32,
