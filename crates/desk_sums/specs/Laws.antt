@@ -1,8 +1,8 @@
 -- What one more cell or clock adds to the test of a sum: its own soundness.
 -- Assumes nothing.
 use mathlib.Core.Path.{_≡_, refl, sym, ap, ap₂, _∙_}
-use mathlib.Core.Bool.{Bool, true, false, not, _&&_, and-assoc, and-comm, and-true, and-false, Bool·not-not}
-use Prim.Native.Nat.{ℕ, _+_, _-_, _≤_}
+use mathlib.Core.Bool.{Bool, true, false, not, _&&_, _||_, cond, and-assoc, and-comm, and-true, and-false}
+use Prim.Native.Nat.{ℕ, _+_, _-_, _≤_, zero-le}
 use native.Mathlib.Omega.{arith}
 use lib.Bits.{bitOr}
 use lib.Dec.{eqb}
@@ -18,10 +18,11 @@ use Rattle.theory_lists.specs.Test.{both, both-left, both-right, same-test}
 use Rattle.desk.specs.declared.Cell.{Cell}
 use Rattle.desk.specs.declared.Counts.{Counts}
 use Rattle.desk.specs.declared.Place.{Place}
-use Rattle.desk.specs.Desk.{Word, isNoWord, oneIf, isUsed, keepsAt, keptBy}
+use Rattle.desk.specs.Desk.{Word, isNoWord, isBlank, oneIf, isUsed, keepsAt, keptBy}
 use Rattle.desk.specs.Sound.{wordFits, cellFits}
+use Rattle.desk.specs.SoundLaws.{blank-is}
 use Rattle.desk_sums.specs.declared.Sum.{Sum}
-use Rattle.desk_sums.specs.Sums.{noSum, joined, orPast, addClock, noted, restOf, addKept, sumFits, clockFits, restFits, keptFits}
+use Rattle.desk_sums.specs.Sums.{noSum, joined, orPast, addClock, noted, stamped, restOf, addKept, sumFits, clockFits, restFits, keptFits}
 
 -- ---- as the code has it
 pub byte-is : (b : Bool) → boolByte b ≡ oneIf b
@@ -113,17 +114,11 @@ pub clock-adds : (s : Sum) (carried : Bool) (c : Clock) (word : Word) (desks : �
     → sumFits (addClock s carried c word) desks ≡ (sumFits s desks && clockFits desks carried c word)
 unfolding addClock clockFits isNoWord
 clock-adds s true c word desks =
-    noted-adds over (not (wordFits word c)) desks
-    ∙ ap (λ (x : Bool). x && not (not (wordFits word c)))
-    (fits-is over desks
+    fits-is (addClock s true c word) desks
     ∙ ap (λ (x : Bool). eqb (s .w) 0 && (isWithin 0 (s .z) && x)) (joined-within desks (s .h) c)
     ∙ out (eqb (s .w) 0) (isWithin 0 (s .z)) (isWithin desks (s .h)) (isWithin desks c)
-    ∙ ap (λ (x : Bool). x && isWithin desks c) (sym (fits-is s desks)))
-    ∙ rw (Bool·not-not (wordFits word c)) (and-assoc (sumFits s desks) (isWithin desks c) (wordFits word c))
+    ∙ ap (λ (x : Bool). x && isWithin desks c) (sym (fits-is s desks))
   where
-    over : Sum
-    over = record { h = joined (s .h) c; z = s .z; w = s .w }
-
     out : (w z h x : Bool) → (w && (z && (h && x))) ≡ (w && (z && h) && x)
     out w z h x = simp and-assoc
 clock-adds s false c word desks =
@@ -146,18 +141,41 @@ rest-adds s x desks =
     ∙ ap (λ (b : Bool). b && not (x .held)) (clock-adds s false (x .stamp) (x .word) desks)
     ∙ and-assoc (sumFits s desks) (isNoWord (x .word) && isWithin 0 (x .stamp)) (not (x .held))
 
+-- where a stamp may be: one that is there, or zeros and word 0; that is, one that its word fits
+pub stamp-fits : (desks : ℕ) (carried : Bool) (c : Clock) (word : Word)
+    → clockFits desks (stamped carried c) c word ≡ cond carried (isWithin desks c && wordFits word c) (isNoWord word && isWithin 0 c)
+unfolding clockFits wordFits
+stamp-fits desks false c word = refl
+stamp-fits desks true c word = go (isBlank c) refl
+  where
+    go : (b : Bool) → isBlank c ≡ b → clockFits desks (not (isBlank c)) c word ≡ (isWithin desks c && (not (isBlank c) || isNoWord word))
+    go false p = rw (p, and-true (isWithin desks c))
+    go true p =
+        rw (p, past-within desks c (λ k _. blank-is c p k zero-le), past-within 0 c (blank-is c p), and-true (isNoWord word))
+
 pub kept-adds : (s : Sum) (kept : Bool) (x : Cell) (desks : ℕ)
     → sumFits (addKept s kept x) desks ≡ (sumFits s desks && keptFits desks kept x)
-unfolding addKept clockFits keptFits
-kept-adds s kept x desks = go (x .held) refl
+unfolding addKept keptFits
+kept-adds s kept x desks = go (stamped (x .held) (x .stamp)) refl ∙ ap (_&&_ (sumFits s desks)) (tell (x .held))
   where
-    go : (b : Bool) → x .held ≡ b → sumFits (addKept s kept x) desks ≡ (sumFits s desks && keptFits desks kept x)
-    go true p = rw p (clock-adds s true (x .stamp) (x .word) desks)
+    fits : Bool → Bool
+    fits held = clockFits desks (stamped held (x .stamp)) (x .stamp) (x .word)
+
+    go : (b : Bool) → stamped (x .held) (x .stamp) ≡ b
+        → sumFits (addKept s kept x) desks ≡ (sumFits s desks && (fits (x .held) && not (kept && not (x .held))))
+    go true p =
+        rw (p, both-left (x .held) (not (isBlank (x .stamp))) p, and-false kept, and-true (clockFits desks true (x .stamp) (x .word)))
+        (clock-adds s true (x .stamp) (x .word) desks)
     go false p =
         rw p
-        (noted-adds (addClock s false (x .stamp) (x .word)) kept desks
-        ∙ ap (λ (b : Bool). b && not kept) (clock-adds s false (x .stamp) (x .word) desks)
-        ∙ and-assoc (sumFits s desks) (isNoWord (x .word) && isWithin 0 (x .stamp)) (not kept))
+        (noted-adds (addClock s false (x .stamp) (x .word)) (kept && not (x .held)) desks
+        ∙ ap (λ (b : Bool). b && not (kept && not (x .held))) (clock-adds s false (x .stamp) (x .word) desks)
+        ∙ and-assoc (sumFits s desks) (clockFits desks false (x .stamp) (x .word)) (not (kept && not (x .held))))
+
+    tell : (held : Bool) → (fits held && not (kept && not held))
+        ≡ cond held (isWithin desks (x .stamp) && wordFits (x .word) (x .stamp)) (isNoWord (x .word) && isWithin 0 (x .stamp) && not kept)
+    tell true = rw (and-false kept, and-true (fits true)) (stamp-fits desks true (x .stamp) (x .word))
+    tell false = rw (and-true kept, stamp-fits desks false (x .stamp) (x .word))
 
 -- ---- and these are a cell's soundness
 module _ (n : Counts) (p : Place) (desk c : ℕ) (x : Cell) where

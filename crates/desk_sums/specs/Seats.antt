@@ -15,10 +15,9 @@ use Rattle.desk.specs.declared.Seat.{Seat}
 use Rattle.desk.specs.declared.Tray.{Tray}
 use Rattle.desk.specs.Desk.{isNoWord, placeAt, keeperOf, keeps, waits}
 use Rattle.desk.specs.Sound.{wordFits, sentFits, slotNames, slotCarries, slotSound, numbersOf, seatSound}
-use Rattle.desk.specs.SoundLaws.{rule-word}
 use Rattle.desk_sums.specs.declared.Sum.{Sum}
-use Rattle.desk_sums.specs.Sums.{addClock, slotBad, addSeat, addSeatOf, slotCell, sumFits, clockFits}
-use Rattle.desk_sums.specs.Laws.{noted-adds, clock-adds}
+use Rattle.desk_sums.specs.Sums.{addClock, stamped, slotBad, addSeat, addSeatOf, slotCell, sumFits, clockFits}
+use Rattle.desk_sums.specs.Laws.{noted-adds, clock-adds, stamp-fits}
 
 -- the desk's own clock
 own-clock : (n : Counts) (desk : ℕ) (c : Clock) → clockFits (n .desks) (ltb desk (n .desks)) c 0 ≡ isWithin (numbersOf n desk) c
@@ -26,7 +25,7 @@ unfolding clockFits isNoWord
 own-clock n desk c = go (ltb desk (n .desks)) refl
   where
     go : (b : Bool) → ltb desk (n .desks) ≡ b → clockFits (n .desks) (ltb desk (n .desks)) c 0 ≡ isWithin (numbersOf n desk) c
-    go true p = rw (p, rule-word 0 c (λ _. refl), and-true (isWithin (n .desks) c))
+    go true p = rw p
     go false p = rw p
 
 -- ---- the slot, as its tests: empty, below 2, below 5; the desk is there, the cell in range, its own, zero; served
@@ -98,10 +97,10 @@ module _ (t : Tray) (desk : ℕ) (v : Seat) (most-cells : t .counts .cells ≤ 3
       (eqb (v .slot .cell) 0) (v .served) none some (sentFits (v .slot .kind) (v .slot .clock))
 
   summed-is : (first
-      && clockFits (t .counts .desks) (ltb desk (t .counts .desks) && leb 2 (v .slot .kind)) (v .slot .clock) (v .slot .word)
+      && clockFits (t .counts .desks) (stamped (ltb desk (t .counts .desks) && leb 2 (v .slot .kind)) (v .slot .clock)) (v .slot .clock) (v .slot .word)
       && not (slotBad (ltb desk (t .counts .desks)) (t .counts .cells) own (v .slot) (v .served))) ≡ by summed
-  unfolding by summed in-range none some clockFits slotBad
-  summed-is = rw (gt-not-le (v .slot .kind) 1, gt-not-le (v .slot .kind) 4, ge-not-lt (v .slot .cell) (t .counts .cells))
+  unfolding by summed in-range none some slotBad
+  summed-is = rw (stamp-fits (t .counts .desks) (ltb desk (t .counts .desks) && leb 2 (v .slot .kind)) (v .slot .clock) (v .slot .word), gt-not-le (v .slot .kind) 1, gt-not-le (v .slot .kind) 4, ge-not-lt (v .slot .cell) (t .counts .cells))
 
   stated-is : by stated ≡ seatSound t desk v
   unfolding by stated first in-range none some seatSound slotSound slotNames slotCarries waits
@@ -122,7 +121,7 @@ module _ (t : Tray) (desk : ℕ) (v : Seat) (most-cells : t .counts .cells ≤ 3
   unfolding addSeat own first
   seat-adds s =
       noted-adds two (slotBad there (t .counts .cells) own (v .slot) (v .served)) desks
-      ∙ ap (λ (x : Bool). x && fine) (clock-adds one (there && leb 2 (v .slot .kind)) (v .slot .clock) (v .slot .word) desks)
+      ∙ ap (λ (x : Bool). x && fine) (clock-adds one full (v .slot .clock) (v .slot .word) desks)
       ∙ ap (λ (x : Bool). x && carries && fine) (clock-adds s there (v .clock) 0 desks)
       ∙ ap (λ (x : Bool). sumFits s desks && x && carries && fine) (own-clock (t .counts) desk (v .clock))
       ∙ out (sumFits s desks) first carries fine
@@ -134,14 +133,17 @@ module _ (t : Tray) (desk : ℕ) (v : Seat) (most-cells : t .counts .cells ≤ 3
       there : Bool
       there = ltb desk desks
 
+      full : Bool
+      full = stamped (there && leb 2 (v .slot .kind)) (v .slot .clock)
+
       one : Sum
       one = addClock s there (v .clock) 0
 
       two : Sum
-      two = addClock one (there && leb 2 (v .slot .kind)) (v .slot .clock) (v .slot .word)
+      two = addClock one full (v .slot .clock) (v .slot .word)
 
       carries : Bool
-      carries = clockFits desks (there && leb 2 (v .slot .kind)) (v .slot .clock) (v .slot .word)
+      carries = clockFits desks full (v .slot .clock) (v .slot .word)
 
       fine : Bool
       fine = not (slotBad there (t .counts .cells) own (v .slot) (v .served))

@@ -14,7 +14,7 @@ use Rattle.desk.specs.declared.Place.{Place}
 use Rattle.desk.specs.declared.Seat.{Seat}
 use Rattle.desk.specs.declared.Slot.{Slot}
 use Rattle.desk.specs.declared.Tray.{Tray}
-use Rattle.desk.specs.Desk.{Word, isNoWord, oneIf, placeAt, keptBy}
+use Rattle.desk.specs.Desk.{Word, isNoWord, isBlank, oneIf, placeAt, keptBy}
 use Rattle.desk.specs.Sound.{wordFits, sentFits, traySound}
 use Rattle.desk_sums.specs.declared.Sum.{Sum}
 
@@ -29,24 +29,28 @@ unfoldable pub orPast : Clock → ℕ → ℕ
 orPast c d = ored 0 (drop d (c .n))
 
 -- ---- what is added
+-- a clock that may be there, with any word; or that must be zero, with its word
+unfoldable pub addClock : Sum → Bool → Clock → Word → Sum
+addClock s carried c word =
+    cond carried (record { h = joined (s .h) c; z = s .z; w = s .w }) (record { h = s .h; z = joined (s .z) c; w = bitOr (s .w) word })
+
 -- something that must not be
 abbrev pub noted : Sum → Bool → Sum
 noted s bad = record { h = s .h; z = s .z; w = bitOr (s .w) (oneIf bad) }
-
--- a clock that may be there, with a word that fits it; or that must be zero, with its word
-unfoldable pub addClock : Sum → Bool → Clock → Word → Sum
-addClock s carried c word =
-    cond carried (noted (record { h = joined (s .h) c; z = s .z; w = s .w }) (not (wordFits word c)))
-    (record { h = s .h; z = joined (s .z) c; w = bitOr (s .w) word })
 
 -- a cell that is none of the tray's
 unfoldable pub restOf : Sum → Cell → Sum
 restOf s x = noted (addClock s false (x .stamp) (x .word)) (x .held)
 
+-- a stamp that may be there and is: one that is all zeros is added to those that must be zero, with its word
+abbrev pub stamped : Bool → Clock → Bool
+stamped carried c = carried && not (isBlank c)
+
 -- a cell of the tray
 unfoldable pub addKept : Sum → Bool → Cell → Sum
 addKept s kept x =
-    cond (x .held) (addClock s true (x .stamp) (x .word)) (noted (addClock s false (x .stamp) (x .word)) kept)
+    cond (stamped (x .held) (x .stamp)) (addClock s true (x .stamp) (x .word))
+    (noted (addClock s false (x .stamp) (x .word)) (kept && not (x .held)))
 
 -- a slot that names or sends what it may not, or a desk that is served and does not wait
 unfoldable pub slotBad : Bool → ℕ → Bool → Slot → Bool → Bool
@@ -56,7 +60,8 @@ slotBad there cells own s served =
 
 unfoldable pub addSeat : Sum → Bool → ℕ → Bool → Seat → Sum
 addSeat s there cells own v =
-    noted (addClock (addClock s there (v .clock) 0) (there && leb 2 (v .slot .kind)) (v .slot .clock) (v .slot .word))
+    noted
+    (addClock (addClock s there (v .clock) 0) (stamped (there && leb 2 (v .slot .kind)) (v .slot .clock)) (v .slot .clock) (v .slot .word))
     (slotBad there cells own (v .slot) (v .served))
 
 abbrev pub addSeatOf : Sum → Counts → ℕ → Place → Seat → Sum
@@ -88,7 +93,7 @@ recordFits t desk v row =
 
 -- ---- what each adds to the test
 unfoldable pub clockFits : ℕ → Bool → Clock → Word → Bool
-clockFits desks carried c word = cond carried (isWithin desks c && wordFits word c) (isNoWord word && isWithin 0 c)
+clockFits desks carried c word = cond carried (isWithin desks c) (isNoWord word && isWithin 0 c)
 
 unfoldable pub restFits : Cell → Bool
 restFits x = isNoWord (x .word) && isWithin 0 (x .stamp) && not (x .held)

@@ -11,9 +11,9 @@ use desk::Place;
 use desk::Seat;
 use desk::Slot;
 use desk::Tray;
+use desk::sound::is_blank;
 use desk::sound::sent_fits;
 use desk::sound::tray_sound;
-use desk::sound::word_fits;
 
 // h is over what may have a number for each desk, z over clocks that must be zero, w over what else must be.
 // (w is wider than a clock's numbers, else the compiler takes those one by one.)
@@ -88,28 +88,29 @@ pub fn rest(s: Sum, x: Cell) -> Sum
     }
 }
 
-// A cell of the tray. (`kept` is looked at only where the cell is not held: a keeper's cells cost nothing.)
+// A cell of the tray. A held one whose stamp is all zeros is added as one that is not held, so that its word must be 0. (`kept` is looked at only
+// where no stamp is held: a keeper's cells cost nothing.)
 pub fn add_kept(s: Sum, kept: bool, x: Cell) -> Sum
     ensures { λ r. ⌜ r ≡ addKept s kept x ⌝ }
 {
     let stamp = x.stamp;
     let h = s.h;
     let z = s.z;
-    if x.held {
+    if x.held & !is_blank(stamp) {
         return Sum {
             h: over(h, stamp),
             z,
-            w: s.w | (!word_fits(x.word, stamp) as u64),
+            w: s.w,
         };
     }
     Sum {
         h,
         z: over(z, stamp),
-        w: s.w | (x.word as u64) | (kept as u64),
+        w: s.w | (x.word as u64) | ((kept & !x.held) as u64),
     }
 }
 
-// A clock that may be there, with a word that fits it; or that must be zero, with its word.
+// A clock that may be there, with any word; or that must be zero, with its word.
 fn add_clock(s: Sum, carried: bool, c: Clock, word: u32) -> Sum
     ensures { λ r. ⌜ r ≡ addClock s carried c word ⌝ }
 {
@@ -119,7 +120,7 @@ fn add_clock(s: Sum, carried: bool, c: Clock, word: u32) -> Sum
         return Sum {
             h: over(h, c),
             z,
-            w: s.w | (!word_fits(word, c) as u64),
+            w: s.w,
         };
     }
     Sum {
@@ -144,7 +145,8 @@ pub fn add_seat(s: Sum, there: bool, cells: u8, own: bool, v: Seat) -> Sum
 {
     let slot = v.slot;
     let one = add_clock(s, there, v.clock, 0);
-    let two = add_clock(one, there & (2 <= slot.kind), slot.clock, slot.word);
+    let full = there & (2 <= slot.kind) & !is_blank(slot.clock);
+    let two = add_clock(one, full, slot.clock, slot.word);
     let h = two.h;
     let z = two.z;
     Sum {

@@ -9,25 +9,37 @@ use Rattle.desk_sums.proofs.add_seat.Tie as tie
 add-clock-requires : tie.Need-add-clock-requires
 add-clock-requires c κs = search needs
 
+is-blank-requires : tie.Need-is-blank-requires
+is-blank-requires c κs = search needs
+
 add-clock-requires-2 : tie.Need-add-clock-requires-2
 add-clock-requires-2 c κs = search needs
 
 slot-bad-requires : tie.Need-slot-bad-requires
 slot-bad-requires c κs = search needs
 
-cast-t13 : tie.Need-cast-t13
-cast-t13 c = search needs
+cast-t16 : tie.Need-cast-t16
+cast-t16 c = search needs
 
 returns : tie.Need-returns
 unfolding addSeat
 returns c =
+    let two = c .before .before .before .before in
     rw (
       byte-is (c .before .slot-bad .result),
       c .before .slot-bad .ensures,
-      c .before .before .before .before .add-clock2 .ensures,
-      c .before .before .before .before .before .before .add-clock .ensures,
+      two .add-clock2 .ensures,
+      two .before .is-blank .ensures,
+      two .before .before .before .add-clock .ensures,
     )
 
 pub add-seat-spec : {M : Type 1} → statement M
 add-seat-spec =
-    tie.close (tie.spec add-clock-requires add-clock-requires-2 slot-bad-requires cast-t13 returns)
+    tie.close
+    (tie.spec
+    add-clock-requires
+    is-blank-requires
+    add-clock-requires-2
+    slot-bad-requires
+    cast-t16
+    returns)
