@@ -20,8 +20,8 @@ use Rattle.desk.specs.declared.Slot.{Slot}
 use Rattle.desk.specs.declared.Tray.{Tray}
 use Rattle.desk.specs.Desk.{noWord, keeps, waits, isAsked, isAnswered, answerKind, isOwn}
 use Rattle.desk.specs.Rules.{seatLines, eventLines, eventRefusal, inTray, requestFits, serveLines, serveRefusal, answerFits, bringLines, bringRefusal}
-use Rattle.desk.specs.Sound.{wordFits, sentFits, isSound}
-use Rattle.desk.specs.SoundLaws.{word-rule, sent-rule, sound-rule, keeps-in, no-way}
+use Rattle.desk.specs.Sound.{isSound}
+use Rattle.desk.specs.SoundLaws.{word-rule, sent-rule, sound-rule, keeps-in}
 
 -- ---- tests
 either-is : (a b : Bool) → (a || b) ≡ true → (a ≡ true) ⊎ (b ≡ true)

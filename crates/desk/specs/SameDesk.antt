@@ -15,7 +15,6 @@ use Rattle.desk.specs.declared.Event.{Event}
 use Rattle.desk.specs.declared.Message.{Message}
 use Rattle.desk.specs.declared.Record.{Record}
 use Rattle.desk.specs.declared.Seat.{Seat}
-use Rattle.desk.specs.declared.Slot.{Slot}
 use Rattle.desk.specs.declared.Step.{Step}
 use Rattle.desk.specs.Desk.{Word, noCell, cellAt, keeps, leftAt, leftOf, answerKind}
 use Rattle.desk.specs.Rules.{withSeat, learns, holds, readRule, writeRule, dropRule, eventDone, readServed, takes, writeServed, serveDone}

@@ -3,7 +3,6 @@
 use mathlib.Core.Path.{_≡_, refl, sym, ap, _∙_}
 use mathlib.Core.Bool.{Bool, true, false, not, _&&_, _||_, cond}
 use mathlib.Core.List.{List, [], _∷_}
-use mathlib.Core.Logic.{⊎-elim}
 use Prim.Native.Nat.{ℕ, _≤_, _<_}
 use native.Mathlib.Decide.{ℕ-discrete}
 use native.Mathlib.Omega.{arith}
@@ -11,9 +10,9 @@ use borrow.Author.Tests.{ltb-true, leb-true, leb-false, not-false, lt-ltb}
 use lib.Dec.{ltb, leb, eqb}
 use lib.ListN.{length, getD, replicate, length-replicate}
 use Rattle.clock.specs.Laws.{zero-past}
-use Rattle.theory_lists.specs.Each.{mapAt, length-mapAt, getD-mapAt}
+use Rattle.theory_lists.specs.Each.{length-mapAt, getD-mapAt}
 use Rattle.theory_lists.specs.Test.{both-left, both-right, either-left, every-mapAt}
-use Rattle.theory_refusals.specs.Refusals.{Line, firstOf, unless, numbersFrom, testOf, none-applies, first-some, first-more, unless-either}
+use Rattle.theory_refusals.specs.Refusals.{Line, firstOf, numbersFrom, testOf, none-applies, first-some, unless-either}
 use Rattle.desk.specs.declared.Plan.{Plan}
 use Rattle.desk.specs.declared.Started.{Started}
 use Rattle.desk.specs.declared.Tray.{Tray}
@@ -22,7 +21,7 @@ use Rattle.desk.specs.Kept.{no-cell-rule, held-rule, no-slot-rule}
 use Rattle.desk.specs.Sound.{placeSound, isSound}
 use Rattle.desk.specs.SoundLaws.{TrayRule, CellRule, RowRule, rule-sound, keeps-in, no-way}
 use Rattle.desk.specs.Start.{plannedPlace, freshTray, keeperRight, keepersRight, setUpLines, setUpRefusal}
-use Rattle.desk.specs.Start.{heldIf, keptAlone, freshRecord, noRecord, startLines, startRefusal, notStarted, startRule}
+use Rattle.desk.specs.Start.{heldIf, keptAlone, freshRecord, startLines, startRefusal, notStarted, startRule}
 
 pub record Settled (p : Plan) : Type 0 where
   pub some-desk : 1 ≤ p .desks

@@ -20,7 +20,7 @@ use Rattle.desk.specs.declared.Record.{Record}
 use Rattle.desk.specs.declared.Slot.{Slot}
 use Rattle.desk.specs.declared.Step.{Step}
 use Rattle.desk.specs.declared.Tray.{Tray}
-use Rattle.desk.specs.Desk.{Word, isBlank, noCell, noMessage, pastCell, cellAt, oneIf, keeps, isCopy, isLost, leftAt, lossAt, leftOf, lossOf}
+use Rattle.desk.specs.Desk.{isBlank, noCell, noMessage, pastCell, cellAt, oneIf, keeps, isCopy, isLost, leftAt, lossAt, leftOf, lossOf}
 use Rattle.desk.specs.Rules.{slotMessage, holds, withClock, withSeat, stores, readAsked, writeAsked, replied, refused, shownCode, asks}
 use Rattle.desk.specs.Rules.{readRule, nextClock, writeRule, dropRule, seatLines, eventLines, eventRefusal, eventDone, eventRule}
 use Rattle.desk.specs.Rules.{serveRefusal, serveRule, serveDone, bringRefusal, bringRule, bringDone}

@@ -15,8 +15,8 @@ use Rattle.desk.specs.Desk.{noCell, noPlace, noSeat, pastCell, pastSeat, cellAt
 use Rattle.desk.specs.SoundLaws.{TrayRule, keeps-in, is-keeper, keeper-desk}
 use Rattle.desk.specs.Start.{plannedPlace, freshTray, noTray, setUpLines, setUpRefusal, keptAlone, freshRecord, startLines, startRefusal, notStarted, startRule}
 use Rattle.desk.specs.StartLaws.{settled, fresh-tray, fresh-length, fresh-cell, fresh-row}
-use Rattle.theory_lists.specs.Each.{mapAt, length-mapAt, getD-mapAt}
-use Rattle.theory_refusals.specs.Refusals.{Line, firstOf, unless, numbersFrom, first-more, unless-done, unless-either}
+use Rattle.theory_lists.specs.Each.{length-mapAt, getD-mapAt}
+use Rattle.theory_refusals.specs.Refusals.{Line, firstOf, numbersFrom, first-more, unless-done, unless-either}
 use Rattle.table.specs.declared.SetUp.{SetUp}
 use Rattle.table.specs.declared.Table.{Table}
 use Rattle.table.specs.Room.{Room}

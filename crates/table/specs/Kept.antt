@@ -18,7 +18,7 @@ use Rattle.desk.specs.Desk.{noWord, waits, isOwn}
 use Rattle.desk.specs.Kept.{event-kept, clock-past, takes-row, brings-row, seat-row, slot-seat, full-rule}
 use Rattle.desk.specs.RuleLaws.{allowed, asked-kind}
 use Rattle.desk.specs.Rules.{withSlot, eventDone, takes, readServed, writeServed, serveDone, bringDone}
-use Rattle.desk.specs.SameDesk.{SameDesk, seat-same, Answers, serve-answers, takes-same, event-same, serve-same, bring-same}
+use Rattle.desk.specs.SameDesk.{SameDesk, seat-same, Answers, serve-answers, event-same, serve-same, bring-same}
 use Rattle.desk.specs.SoundLaws.{SlotRule, RowRule}
 use Rattle.table.specs.declared.Outcome.{Outcome}
 use Rattle.table.specs.declared.Table.{Table}

@@ -1,23 +1,23 @@
 -- What an event that is not refused has passed; so what holds of a refusal and of the three ways to do an event holds of every event.
 -- Assumes nothing.
 use mathlib.Core.Path.{_≡_, refl, ap}
-use mathlib.Core.Bool.{Bool, true, false, not, _&&_}
+use mathlib.Core.Bool.{true, false, not, _&&_}
 use mathlib.Core.List.{_++_}
-use mathlib.Core.Logic.{_⊎_, inl, inr, ⊎-elim}
+use mathlib.Core.Logic.{inl, inr, ⊎-elim}
 use Prim.Native.Nat.{ℕ, _≤_, _<_}
 use native.Mathlib.Decide.{ℕ-discrete}
 use native.Mathlib.Omega.{arith}
-use borrow.Author.Tests.{ltb-true, leb-true, eqb-true, eq-eqb, ne-eqb, lt-ltb, not-false}
+use borrow.Author.Tests.{ltb-true, leb-true, eqb-true, eq-eqb, ne-eqb, not-false}
 use lib.Dec.{ltb, leb, eqb}
 use Rattle.clock.specs.Clock.{number}
 use Rattle.desk.specs.declared.Event.{Event}
 use Rattle.desk.specs.declared.Slot.{Slot}
 use Rattle.desk.specs.Desk.{keeps, waits, isOwn}
-use Rattle.desk.specs.RuleLaws.{one-of, own-is, is-own, asked-kind, answered-kind, SeatPassed, seat-passed}
+use Rattle.desk.specs.RuleLaws.{is-own, asked-kind, answered-kind, SeatPassed, seat-passed}
 use Rattle.desk.specs.Rules.{placeLines, seatLines, eventLines, eventRefusal}
 use Rattle.desk.specs.SoundLaws.{SlotRule, SoundRule, rule-sound, keeper-keeps, keeper-desk, no-way}
 use Rattle.theory_lists.specs.Test.{both-left, both-right}
-use Rattle.theory_refusals.specs.Refusals.{Line, firstOf, unless, numbersFrom, testOf, none-applies, none-after, first-none, unless-refused, unless-done, unless-either}
+use Rattle.theory_refusals.specs.Refusals.{firstOf, numbersFrom, testOf, none-applies, none-after, first-none, unless-refused, unless-done}
 use Rattle.table.specs.declared.Outcome.{Outcome}
 use Rattle.table.specs.declared.Table.{Table}
 use Rattle.table.specs.Rows.{Sized}
