@@ -1,11 +1,11 @@
--- Strictly before, found in one go: each pair of numbers has a bit for smaller and one for larger, and the or of all is the first bit alone.
+-- Strictly before, found in one go: a pair of numbers gives the first bit for smaller and all bits for larger, and the or of all is the first bit alone.
 -- Assumes nothing.
 use mathlib.Core.Path.{_≡_, refl, ap, ap₂, _∙_}
 use mathlib.Core.Bool.{Bool, true, false, not, _&&_, _||_, cond, or-assoc, or-false}
 use mathlib.Core.List.{List, [], _∷_}
-use Prim.Native.Nat.{ℕ, _+_, _*_, _<_}
+use Prim.Native.Nat.{ℕ}
 use native.Mathlib.Omega.{arith}
-use lib.Bits.{bitOr, or-block}
+use lib.Bits.{bitOr}
 use lib.Dec.{leb, ltb, eqb}
 use lib.ListN.{length}
 use Rattle.theory_lists.specs.Or.{ored, listed, listed-all}
@@ -18,26 +18,22 @@ abbrev bit : Bool → ℕ
 bit b = cond b 1 0
 
 abbrev pub flags : Bool → Bool → ℕ
-flags smaller larger = bit larger * 2 + bit smaller
+flags smaller larger = cond larger 4294967295 (bit smaller)
 
--- how two numbers stand: 0 equal, 1 smaller, 2 larger
+-- how two numbers stand: 0 equal, 1 smaller, all bits larger
 unfoldable pub orderOf : ℕ → ℕ → ℕ
 orderOf a b = flags (ltb a b) (ltb b a)
 
-or-bit : (a b : Bool) → bitOr (bit a) (bit b) ≡ bit (a || b)
-or-bit true true = refl
-or-bit true false = refl
-or-bit false true = refl
-or-bit false false = refl
-
-bit-small : (b : Bool) → bit b < 2
-bit-small true = omega arith
-bit-small false = omega arith
-
 or-flags : (s l p q : Bool) → bitOr (flags s l) (flags p q) ≡ flags (s || p) (l || q)
-or-flags s l p q =
-    or-block 1 (bit l) (bit q) (bit s) (bit p) (bit-small s) (bit-small p)
-    ∙ ap₂ (λ (x y : ℕ). x * 2 + y) (or-bit l q) (or-bit s p)
+or-flags s true p true = refl
+or-flags s true true false = refl
+or-flags s true false false = refl
+or-flags true false p true = refl
+or-flags false false p true = refl
+or-flags true false true false = refl
+or-flags true false false false = refl
+or-flags false false true false = refl
+or-flags false false false false = refl
 
 -- one more pair
 turn : (s l : Bool) (x y : ℕ) (rest : List ℕ) (one all : Bool)

@@ -52,11 +52,16 @@ impl Clock {
     }
 }
 
-// How two numbers stand: 0 equal, 1 smaller, 2 larger. (One value for both, so that the compiler takes the eight pairs at once.)
+// How two numbers stand: 0 equal, 1 smaller, all bits larger. (One value for both, so that the compiler takes the eight pairs at once; these
+// three, because it then finds a value with two comparisons and a subtraction.)
 fn order(a: u32, b: u32) -> u32
     ensures { λ r. ⌜ r ≡ orderOf a b ⌝ }
 {
-    if a == b { 0 } else { if a < b { 1 } else { 2 } }
+    if a == b {
+        0
+    } else {
+        if a < b { 1 } else { 4294967295 }
+    }
 }
 
 fn larger(a: u32, b: u32) -> u32

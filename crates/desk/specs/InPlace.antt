@@ -1,7 +1,7 @@
 -- The desk's steps as the code does them where its record lies: cell by cell, and its seat. Each is the rule, for what is not refused.
 -- Assumes nothing.
-use mathlib.Core.Path.{_≡_, refl, sym, ap, _∙_}
-use mathlib.Core.Bool.{Bool, true, false, not, cond}
+use mathlib.Core.Path.{_≡_, refl, sym, ap, ap₂, _∙_}
+use mathlib.Core.Bool.{Bool, true, false, not, _&&_, cond}
 use mathlib.Core.Logic.{⊎-elim}
 use Prim.Native.Nat.{ℕ, _+_, _≤_, _<_}
 use native.Mathlib.Nat.{add-zero, zero-add}
@@ -11,9 +11,10 @@ use borrow.Author.Tests.{eqb-true, eqb-false, eq-eqb, ne-eqb, lt-ltb}
 use lib.Dec.{T, eqb}
 use lib.ListN.{length, length-set}
 use lib.Seq.{getD-set-same}
+use Rattle.clock.specs.Clock.{isBefore}
 use Rattle.clock.specs.declared.Clock.{Clock}
 use Rattle.theory_lists.specs.Each.{length-mapAt}
-use Rattle.theory_lists.specs.Swept.{swept, sweptCount, count-small, swept-all, swept-all-count}
+use Rattle.theory_lists.specs.Swept.{swept, sweptCount, count-small, length-swept, swept-all, swept-all-count, swept-stored, count-stored}
 use Rattle.theory_lists.specs.Test.{both-left, fails}
 use Rattle.theory_refusals.specs.Refusals.{unless, unless-refused, unless-done}
 use Rattle.desk.specs.declared.Answer.{Answer}
@@ -113,6 +114,28 @@ module _ (v : Record) (long : length (v .row) ≡ 32) (few : v .tray .counts .ce
 abbrev pub storeIn : Record → ℕ → Seat → Word → Record
 storeIn v c s w = holds (withSeat v s) c (heldCell w (s .clock))
 
+-- in a kept cell, which is no copy: before a sweep as well as after it
+module _ (v : Record) (c : ℕ) (s : Seat) (w : Word) (learnt : Clock) (kept : keeps (v .tray) (v .desk) c ≡ true) where
+  stays : (x : Cell) → isLost (v .tray) (v .desk) learnt c x ≡ false
+  unfolding isLost isCopy
+  stays x = rw kept (no-copy (x .held))
+    where
+      no-copy : (b : Bool) → ((b && not true) && isBefore (x .stamp) learnt) ≡ false
+      no-copy true = refl
+      no-copy false = refl
+
+  pub lost-stored : lostIn (storeIn v c s w) learnt ≡ storeIn (lostIn v learnt) c s w
+  unfolding lostTo
+  lost-stored =
+      let same = swept-stored (isLost (v .tray) (v .desk) learnt) noCell pastCell 0 (v .row) c (heldCell w (s .clock)) stays (v .tray .counts .cells) in
+      ap (withRow (withSeat v s)) (rw (zero-add c) at same)
+
+  pub loss-stored : lossIn (storeIn v c s w) learnt ≡ lossIn v learnt
+  unfolding lossTo
+  loss-stored =
+      let same = count-stored (isLost (v .tray) (v .desk) learnt) noCell pastCell 0 (v .row) c (heldCell w (s .clock)) stays (v .tray .counts .cells) in
+      rw (zero-add c) at same
+
 -- ---- 1 Read, 2 Write, 5 Drop
 abbrev pub namedBy : Record → Event → Cell
 namedBy v e = cellAt (v .row) (e .cell)
@@ -193,6 +216,21 @@ module _ (v : Record) (long : length (v .row) ≡ 32) (m : Message) (none : serv
   take-is =
       ap (λ (u : Record). storeIn u (m .cell) (tookSeat (v .seat) (m .clock)) (m .word))
       (lost-is v long (serves .tray-is .cells-most) (serves .row-is) (m .clock))
+
+  -- as the code has it: the write is stored first, and answered with what stands there at last
+  pub take-stored : let u = storeIn v (m .cell) (tookSeat (v .seat) (m .clock)) (m .word) in
+      (servedAnswer (lossIn u (m .clock)) m (cellAt (lostIn u (m .clock) .row) (m .cell)) ≡ takeAnswer v m) × (lostIn u (m .clock) ≡ takeIn v m)
+  unfolding takeIn lostTo
+  take-stored =
+      let after = lost-stored v (m .cell) (tookSeat (v .seat) (m .clock)) (m .word) (m .clock) (s .kept) in
+      let same-length = length-swept (isLost (v .tray) (v .desk) (m .clock)) noCell pastCell 0 (v .tray .counts .cells) (v .row) in
+      let stands = getD-set-same (lostIn v (m .clock) .row) (m .cell) (heldCell (m .word) (tookSeat (v .seat) (m .clock) .clock)) pastCell
+      (omega (arith, serve-place v m none .0, same-length, long)) in (
+        ap₂ (λ (n : ℕ) (x : Cell). servedAnswer n m x)
+            (loss-stored v (m .cell) (tookSeat (v .seat) (m .clock)) (m .word) (m .clock) (s .kept))
+            (ap (λ (u : Record). cellAt (u .row) (m .cell)) after ∙ stands),
+        after,
+      )
 
   pub take-serves : m .kind ≡ 2 → (takeAnswer v m ≡ answerOf (serveDone v m)) × (takeIn v m ≡ serveDone v m .after)
   unfolding takes serveDone writeServed

@@ -59,7 +59,7 @@ store =
 abbrev pub take-write : LentFn desk-record
 take-write =
     gives desk-record (message ∷ []) answer
-    (where-holds (λ x. (x .1 .0 .cell < 32) × (x .1 .0 .kind < 3) × (x .0 .tray .counts .cells ≤ 32)))
+    (where-holds (λ x. serveRefusal (x .0) (x .1 .0) ≡ 0))
     (λ v a. takeAnswer v (a .0)) (λ v a. takeIn v (a .0))
 
 -- a step: it answers, and leaves the record afterwards

@@ -147,15 +147,16 @@ fn own(v: &mut Record, e: Event) -> Answer
     own_answer(kept, x, e, own_counts(v), desk, own_seat(v))
 }
 
-// The keeper takes the write of a request. It answers from what it stores, so that nothing just stored is read back.
+// The keeper takes the write of a request. It stores before the sweep, which goes past a kept cell, and answers from the cell after it: what was
+// just stored is not read back at once.
 fn take_write(v: &mut Record, m: Message) -> Answer
-    requires { ⌜ (m .cell < 32) × (m .kind < 3) × (now v .tray .counts .cells ≤ 32) ⌝ }
+    requires { ⌜ serveRefusal (now v) m ≡ 0 ⌝ }
     ensures { λ r. ⌜ (r ≡ takeAnswer (now (v .entry)) m) × (now (v .exit) ≡ takeIn (now (v .entry)) m) ⌝ }
 {
-    let count = lose(v, sent_clock(m));
     let s = took(own_seat(v), sent_clock(m));
     store(v, named_cell(m), s, sent_word(m));
-    served_answer(count, m, storing(s, sent_word(m)))
+    let count = lose(v, sent_clock(m));
+    served_answer(count, m, own_cell(v, named_cell(m)))
 }
 
 // A request that nothing refuses.

@@ -10,7 +10,7 @@ use native.Mathlib.Nat.{add-zero, zero-add}
 use native.Mathlib.Numerals.{add-one}
 use native.Mathlib.Omega.{arith}
 use lib.ListN.{length, getD, set, drop, length-set, length-drop, List·getD-eq-default}
-use lib.Seq.{slice, paste, getD-set-same, getD-set-other, getD-drop, length-slice, length-paste, take-all, ext-getD}
+use lib.Seq.{slice, paste, set-comm, getD-set-same, getD-set-other, getD-drop, length-slice, length-paste, take-all, ext-getD}
 use Rattle.theory_lists.specs.Each.{mapAt, length-mapAt, getD-mapAt}
 use Rattle.theory_lists.specs.Part.{getD-slice, paste-in, paste-out}
 use Rattle.theory_lists.specs.Sum.{sum, sum-turn, sum-le}
@@ -76,6 +76,44 @@ module _ {A : Type 0} (test : ℕ → A → Bool) (none d : A) (base : ℕ) wher
           whichever (λ (m : List A). getD m (base + c) d ≡ cond (test c (getD l (base + c) d)) none (getD l (base + c) d))
           (test n (getD (swept n l) (base + n) d)) (set (swept n l) (base + n) none) (swept n l)
           (getD-set-other (swept n l) (base + n) (base + c) none d (λ e. ne (omega arith)) ∙ before) before
+
+  -- ---- a place that loses nothing: it may be stored to before the sweep as well as after it
+  module _ (l : List A) (k : ℕ) (x : A) (stays : (y : A) → test k y ≡ false) where
+    abbrev stored : List A
+    stored = set l (base + k) x
+
+    there : (n : ℕ) → (n ≡ k → ⊥) → swept n stored ≡ set (swept n l) (base + k) x
+        → getD (swept n stored) (base + n) d ≡ getD (swept n l) (base + n) d
+    there n ne before =
+        ap (λ (m : List A). getD m (base + n) d) before
+        ∙ getD-set-other (swept n l) (base + k) (base + n) x d (λ e. ne (omega arith))
+
+    pub swept-stored : (n : ℕ) → swept n stored ≡ set (swept n l) (base + k) x
+    unfolding swept
+    swept-stored zero = refl
+    swept-stored (suc n) =
+        elim (ℕ-discrete n k) [
+          | yes e ↦ let none-lost : (y : A) → test n y ≡ false = λ y. rw e (stays y) in
+              rw (none-lost (getD (swept n stored) (base + n) d), none-lost (getD (swept n l) (base + n) d)) (swept-stored n)
+          | no ne ↦ rw (there n ne (swept-stored n)) (turn ne (swept-stored n) (test n (getD (swept n l) (base + n) d)))
+        ]
+      where
+        turn : (n ≡ k → ⊥) → swept n stored ≡ set (swept n l) (base + k) x → (b : Bool)
+            → cond b (set (swept n stored) (base + n) none) (swept n stored) ≡ set (cond b (set (swept n l) (base + n) none) (swept n l)) (base + k) x
+        turn ne before true =
+            ap (λ (m : List A). set m (base + n) none) before
+            ∙ set-comm (swept n l) (base + k) (base + n) x none (λ e. ne (omega arith))
+        turn ne before false = before
+
+    pub count-stored : (n : ℕ) → sweptCount n stored ≡ sweptCount n l
+    unfolding sweptCount
+    count-stored zero = refl
+    count-stored (suc n) =
+        elim (ℕ-discrete n k) [
+          | yes e ↦ let none-lost : (y : A) → test n y ≡ false = λ y. rw e (stays y) in
+              rw (none-lost (getD (swept n stored) (base + n) d), none-lost (getD (swept n l) (base + n) d), count-stored n)
+          | no ne ↦ rw (there n ne (swept-stored n), count-stored n)
+        ]
 
   -- ---- a row of w places, of which those past n have nothing to lose
   module _ (n w : ℕ) (l : List A) (few : n ≤ w) (room : base + w ≤ length l)

@@ -5,8 +5,7 @@ use borrow.Author.Tests.{eqb-true, eqb-false}
 use lib.Dec.{eqb, lit<}
 use Rattle.desk.specs.Desk.{cellAt}
 use Rattle.desk.specs.InPlace.{take-serves, read-serves}
-use Rattle.desk.specs.RuleLaws.{served, serve-place}
-use Rattle.desk.specs.SoundLaws.{sound-rule}
+use Rattle.desk.specs.RuleLaws.{serve-place}
 use Rattle.desk_acts.proofs.Acts as acts
 use Rattle.desk_acts.proofs.named_cell.Met as named-cell-thm
 use Rattle.desk_acts.proofs.named_cell.Symbol as named-cell
@@ -47,10 +46,9 @@ take-spec 𝓤 H 𝓜 𝓖 𝓡 =
     let served-answer-met = knows acts.served-answer served-answer.name served-answer.routine code.calls-desk-acts·served-answer
     (served-answer-thm.met 𝓤 H 𝓜 𝓖 𝓡) κ q b o γ in
     let m = a .0 in let is-m = is-a .0 in let there = serve-place t m need in let long = row-long t is in let write = eqb (m .kind) 2 in
-    let few = sound-rule t (served t m need .sound) .tray-is .cells-most in
     _ ⨟ sends-write-met ⨟ (m, tt) ⨟ ((is-m, tt), tt) ⨟ refl ⨟ refl ⨟ λ _.
     apart ((λ yes. let same = take-serves t long m need (eqb-true (m .kind) 2 (is-true write yes)) in
-    ((tt, tt) ⨟ _ ⨟ take-write-met ⨟ (m, tt) ⨟ ((is-m, tt), (there .0, there .1, few)) ⨟ refl ⨟ refl ⨟ λ is-r.
+    ((tt, tt) ⨟ _ ⨟ take-write-met ⨟ (m, tt) ⨟ ((is-m, tt), need) ⨟ refl ⨟ refl ⨟ λ is-r.
     _ ⨟ refl ⨟ (ap (val acts.answer) (same .0), subst (IsOf acts.answer) (same .0) is-r, same .1, tt)))
     ⨟ (λ no. let same = read-serves t long m need (eqb-false (m .kind) 2 (is-false write no)) in
     ((tt, tt) ⨟ _ ⨟ named-cell-met ⨟ (m, tt) ⨟ ((is-m, tt), tt) ⨟ refl ⨟ refl ⨟ λ is-c.
