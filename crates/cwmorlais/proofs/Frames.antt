@@ -1,6 +1,6 @@
--- What the function over a lent message and an output does, and the one that is handed the output, as the walk cites them.
+-- What the function over a lent message and an output does, and the two that are handed the output, as the walk cites them.
 -- Assumes nothing.
-use mathlib.Core.Path.{_≡_, refl}
+use mathlib.Core.Path.{_≡_, refl, sym}
 use mathlib.Core.List.{[], _∷_}
 use mir.Syntax.{w8, w32}
 use Rattle.desk.proofs.Message as M
@@ -50,6 +50,22 @@ write = record { R = written; ens = λ m xs r ys. (r ≡ writeRule m xs) × (ys 
 
 abbrev handed-on : Args (number w8 ∷ number w8 ∷ number w8 ∷ number w8 ∷ number w32 ∷ clock ∷ []) → Message
 handed-on a = given (a .0) (a .1 .0) (a .1 .1 .0) (a .1 .1 .1 .0) (a .1 .1 .1 .1 .0) (a .1 .1 .1 .1 .1 .0)
+
+abbrev asked-on : Args (clock ∷ number w32 ∷ number w8 ∷ number w8 ∷ number w8 ∷ []) → Message
+asked-on a = given 1 (a .1 .1 .0) (a .1 .1 .1 .0) (a .1 .1 .1 .1 .0) (a .1 .0) (a .0)
+
+pub asked-is : (m : Message) → m .kind ≡ 1 → asked-on (m .clock, (m .word, (m .desks, (m .desk, (m .cell, tt))))) ≡ m
+asked-is m e = λ i. record { kind = sym e i; desks = m .desks; desk = m .desk; cell = m .cell; word = m .word; clock = m .clock }
+
+abbrev pub bare : SliceFn (number w8)
+bare = record {
+  Ps = clock ∷ number w32 ∷ number w8 ∷ number w8 ∷ number w8 ∷ [];
+  R = written;
+  ens = λ xs a r ys. (r ≡ writeRule (asked-on a) xs) × (ys ≡ outputRule (asked-on a) xs);
+  res = λ xs a. writeRule (asked-on a) xs;
+  after = λ xs a. outputRule (asked-on a) xs;
+  says = λ xs a r ys e. e;
+}
 
 abbrev pub by-parts : SliceFn (number w8)
 by-parts = record {

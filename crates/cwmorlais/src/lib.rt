@@ -60,6 +60,9 @@ pub extern "C" fn cwmorlais_frame_read(s: &[u8]) -> Reading
 pub extern "C" fn cwmorlais_frame_write(m: &Message, out: &mut [u8]) -> Written
     ensures { λ r. ⌜ (r ≡ writeRule (now (m .entry)) (now (out .entry))) × (now (out .exit) ≡ outputRule (now (m .entry)) (now (out .entry))) ⌝ }
 {
+    if m.kind == 1 {
+        return frame_write::bare(out, m.clock, m.word, m.desks, m.desk, m.cell);
+    }
     frame_write::write(out, m.kind, m.desks, m.desk, m.cell, m.word, m.clock)
 }
 

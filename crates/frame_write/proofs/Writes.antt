@@ -1,4 +1,4 @@
--- What writing comes to, once the head has no fault: the refusals that are left, and the frame in two parts.
+-- What writing comes to: a fault of the head, the refusals that are left where it has none, and the frame in two parts.
 -- Assumes nothing.
 use borrow.Author.Tests.{ltb-true, ltb-false, lt-ltb, le-ltb}
 use native.Mathlib.Omega.{arith}
@@ -13,7 +13,7 @@ use Rattle.theory_lists.specs.Test.{every}
 use Rattle.spelling.specs.Bytes.{bytes, spell, put, put-next}
 use Rattle.desk.specs.declared.Message.{Message}
 use Rattle.frame.specs.Frame.{carried, lengthOf, faultIn, carriedOrZero, wellFormed, frameOf, writeRule, outputRule}
-use Rattle.frame.specs.Laws.{faultless, called, headOf, bodyOf, frame-split, not-well-formed, no-room, can-write, write-refused, write-accepted}
+use Rattle.frame.specs.Laws.{faulty, faultless, called, headOf, bodyOf, frame-split, not-well-formed, no-room, can-write, write-refused, write-accepted}
 
 -- ---- the numbers that are not carried
 later : (n k : ℕ) (b : Bool) → ltb k n ≡ b → ltb (suc k) (1 + n) ≡ ltb k n
@@ -35,6 +35,10 @@ unfolding mapAt every carriedOrZero
 none-carried word ns =
     ap (λ (l : List Bool). eqb word 0 && every l) (mapAt-same (λ k. carriedOrZero 0 (suc k)) (carriedOrZero 0) ns 0
     (λ k h. ap (λ (b : Bool). b || eqb (getD ns k 0) 0) (never k)))
+
+-- ---- a fault of the head
+pub faulted : (m : Message) (l : List ℕ) (n : ℕ) → n ≡ faultIn m → (n ≡ 0 → ⊥) → (record { code = n; used = 0 } ≡ writeRule m l) × (l ≡ outputRule m l)
+faulted m l n e some = write-refused m l n (e ∙ sym (faulty m (length l) (λ z. some (e ∙ z)))) some
 
 -- ---- the message m into the output l, of which c numbers are carried
 module _ (m : Message) (l : List ℕ) (c : ℕ) (e : c ≡ carried (m .kind) (m .desks)) (ok : faultIn m ≡ 0) where

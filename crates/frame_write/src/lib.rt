@@ -6,7 +6,7 @@ ghost use lib.ListN.{length, take, drop};
 ghost use Rattle.theory_lists.specs.Each.{mapAt};
 ghost use Rattle.theory_lists.specs.Test.{every};
 ghost use Rattle.spelling.specs.Bytes.{spell, put};
-ghost use Rattle.frame.specs.Frame.{widths, faultOf, carriedOrZero, writeRule, outputRule};
+ghost use Rattle.frame.specs.Frame.{widths, carriedOrZero, writeRule, outputRule};
 ghost use Rattle.frame.specs.Laws.{headOf};
 ghost use Rattle.frame_write.specs.Given.{given};
 use clock::Clock;
@@ -28,21 +28,24 @@ pub fn write(
 ) -> Written
     ensures { λ r. ⌜ (r ≡ writeRule (given kind desks desk cell word clock) (now (out .entry))) × (now (out .exit) ≡ outputRule (given kind desks desk cell word clock) (now (out .entry))) ⌝ }
 {
-    let code = fault(kind, desks, desk, cell);
-    if code != 0 {
-        return Written { code, used: 0 };
-    }
     if kind == 1 {
-        return bare(out, desks, desk, cell, word, clock);
+        return bare(out, clock, word, desks, desk, cell);
     }
     whole(out, kind, desks, desk, cell, word, clock)
 }
 
-// A read asked: its frame is the head alone.
-fn bare(out: &mut [u8], desks: u8, desk: u8, cell: u8, word: u32, clock: Clock) -> Written
-    requires { ⌜ faultOf 1 desks desk cell ≡ 0 ⌝ }
+// A read asked: its frame is the head alone. (What it must not have comes first: were the parts in `write`'s order, the compiler would load them before it
+// looks at the kind, and save registers for them.)
+pub fn bare(out: &mut [u8], clock: Clock, word: u32, desks: u8, desk: u8, cell: u8) -> Written
     ensures { λ r. ⌜ (r ≡ writeRule (given 1 desks desk cell word clock) (now (out .entry))) × (now (out .exit) ≡ outputRule (given 1 desks desk cell word clock) (now (out .entry))) ⌝ }
 {
+    let head = fault(1, desks, desk, cell);
+    if head != 0 {
+        return Written {
+            code: head,
+            used: 0,
+        };
+    }
     if !((word == 0) & zero_from(clock, 0)) {
         return Written { code: 38, used: 0 };
     }
@@ -63,9 +66,13 @@ fn whole(
     word: u32,
     clock: Clock,
 ) -> Written
-    requires { ⌜ (kind ≡ 1 → ⊥) × (faultOf kind desks desk cell ≡ 0) ⌝ }
+    requires { ⌜ (kind ≡ 1 → ⊥) ⌝ }
     ensures { λ r. ⌜ (r ≡ writeRule (given kind desks desk cell word clock) (now (out .entry))) × (now (out .exit) ≡ outputRule (given kind desks desk cell word clock) (now (out .entry))) ⌝ }
 {
+    let code = fault(kind, desks, desk, cell);
+    if code != 0 {
+        return Written { code, used: 0 };
+    }
     let n = desks as usize;
     if !zero_from(clock, n) {
         return Written { code: 38, used: 0 };
