@@ -1,5 +1,5 @@
--- A function that takes a `&T` and a `&mut [E]`, reads what lies behind the first, and hands the slice on to one function, which takes it
--- first and then plain values: `fn write(m: &T, out: &mut [E]) -> R { covered(out, m.x, m.y, ..) }`. `sharing` is what its own proof cites,
+-- A function that takes a `&T` and a `&mut [E]`, reads what lies behind the first, and hands the slice on to a function, which takes it
+-- first and then plain values: `fn write(m: &T, out: &mut [E]) -> R { covered(out, m.x, m.y, ..) }`. It may branch before. `sharing` is what its own proof cites,
 -- `handed` what it cites of the function that it calls, and `reads-shared` how a part of the T is read.
 -- Assumes nothing.
 use mathlib.Core.Path.{_≡_, refl, sym, subst}
