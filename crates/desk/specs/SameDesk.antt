@@ -89,12 +89,12 @@ module _ (v : Record) where
   bring-same m = brings-same m
 
 -- ---- its clock
-abbrev Numbers : Record → ℕ
-Numbers v = length (v .seat .clock .n)
+abbrev numbers : Record → ℕ
+numbers v = length (v .seat .clock .n)
 
 module _ (v : Record) where
   abbrev Longer : Step → Type 0
-  Longer s = Numbers v ≤ Numbers (s .after)
+  Longer s = numbers v ≤ numbers (s .after)
 
   pub event-longer : (e : Event) → Longer (eventDone v e)
   unfolding eventDone readRule writeRule dropRule raised

@@ -7,7 +7,7 @@ use Prim.Native.Nat.{ℕ, _+_, _*_, _/_, _%_, _≤_, _<_}
 use native.Mathlib.Omega.{arith}
 use borrow.Author.Tests.{lt-leb}
 use lib.Dec.{leb}
-use lib.ListN.{length, replicate, length-replicate, getD-replicate}
+use lib.ListN.{length, getD, replicate, length-replicate, getD-replicate}
 use lib.Seq.{ext-getD}
 use Rattle.desk.specs.declared.Plan.{Plan}
 use Rattle.desk.specs.declared.Tray.{Tray}
@@ -35,6 +35,10 @@ tray-sized t long =
       all-seats = refl;
     }
 
+-- eight seats with nothing in them: their clocks have their places
+fresh-clocks : (p : ℕ) → p < 8 → 8 ≤ length (getD (replicate 8 noSeat) p pastSeat .clock .n)
+fresh-clocks p h = rw (getD-replicate 8 p noSeat pastSeat h) (omega arith)
+
 -- ---- a desk's row of a fresh table is the record that the desk would start with
 module _ (t : Tray) (long : length (t .places) ≡ 32) where
   entry : (p c : ℕ) → p < 8 → c < 32 → cellAt (recordOf (freshTable t) p .row) c ≡ keptAlone t p c
@@ -56,10 +60,6 @@ module _ (t : Tray) (long : length (t .places) ≡ 32) where
   unfolding freshTable recordOf freshRecord
   fresh-record p h = λ i. record { tray = t; desk = p; seat = getD-replicate 8 p noSeat pastSeat h i; row = row p h i }
 
-  fresh-clocks : (p : ℕ) → p < 8 → 8 ≤ length (recordOf (freshTable t) p .seat .clock .n)
-  unfolding recordOf freshTable
-  fresh-clocks p h = rw (getD-replicate 8 p noSeat pastSeat h) (omega arith)
-
   -- on a tray that is sound, who keeps a cell is a desk
   tray-fresh : TrayRule t → TableRule (freshTable t)
   unfolding freshTable
@@ -80,7 +80,8 @@ module _ (p : Plan) (long : length (p .keepers) ≡ 32) where
   places = length-mapAt (plannedPlace (p .cells)) (p .keepers) ∙ long
 
   pub fresh-room : Room (freshTable (freshTray p))
-  fresh-room = record { sized = tray-sized (freshTray p) places; clocks = fresh-clocks (freshTray p) places }
+  unfolding recordOf freshTable
+  fresh-room = record { sized = tray-sized (freshTray p) places; clocks = fresh-clocks }
 
   pub fresh-sound : setUpRefusal p ≡ 0 → tableSound (freshTable (freshTray p)) ≡ true
   fresh-sound none = rule-table (freshTable (freshTray p)) (tray-fresh (freshTray p) places (fresh-tray p none))
@@ -93,7 +94,7 @@ module _ (p : Plan) (long : length (p .keepers) ≡ 32) where
       (λ _.
       record {
         sized = record { all-cells = length-replicate 256 noCell; all-places = length-replicate 32 noPlace; all-seats = refl };
-        clocks = λ d h. rw (getD-replicate 8 d noSeat pastSeat h) (omega arith);
+        clocks = fresh-clocks;
       })
       (λ _. fresh-room)
 
