@@ -5,9 +5,9 @@ use Rattle.std.proofs.Common.{sym, ◌∙◌, zero-le, arith, ext_get_or, get_or
 use Rattle.std.proofs.Math.Decide.{ℕ_discrete, dec_lt}
 use Rattle.std.proofs.lemmas.List.{get_or-replicate}
 use Rattle.std.proofs.Math.ListN.{get_or-eq_default}
-use Rattle.theory_lists.specs.Test.{every, some, fails, both, both_left, both_right, either, either_left, every-at, every_of, every-mapAt, mapAt-every, some_at, some_of}
+use Rattle.theory_lists.specs.Test.{every, some, fails, both, both_left, both_right, either, either_left, every-at, every_of, every-map_at, map_at-every, some_at, some_of}
 use Rattle.clock.specs.declared.Clock.{Clock}
-use Rattle.clock.specs.Clock.{number, zeroClock, paired, merged, isBefore, zeroPast, isWithin, raised}
+use Rattle.clock.specs.Clock.{number, zero_clock, paired, merged, is_before, zero_past, is_within, raised}
 
 -- ---- pairs of numbers
 pub paired_at : {A : Type 0} (f : ℕ → ℕ → A) (a b : List ℕ) (k : ℕ) → get_or (paired f a b) k (f 0 0) ≡ f (get_or a k 0) (get_or b k 0)
@@ -40,21 +40,21 @@ abbrev pub ZeroPast : ℕ → Clock → Type 0
 ZeroPast d c = (k : ℕ) → d ≤ k → number c k ≡ 0
 
 -- the test of it, as that rule and back
-pub within-past : (d : ℕ) (c : Clock) → isWithin d c ≡ true → ZeroPast d c
-unfolding isWithin
+pub within-past : (d : ℕ) (c : Clock) → is_within d c ≡ true → ZeroPast d c
+unfolding is_within
 within-past d c e k h =
     elim (dec_lt k (length c.n)) [
-      | yes i ↦ eqb-true (number c k) 0 (either_left (le-ltb k d h) (every-mapAt (zeroPast d) c.n 0 e k i))
+      | yes i ↦ eqb-true (number c k) 0 (either_left (le-ltb k d h) (every-map_at (zero_past d) c.n 0 e k i))
       | no i ↦ get_or-eq_default c.n 0 (omega arith)
     ]
 
-pub past-within : (d : ℕ) (c : Clock) → ZeroPast d c → isWithin d c ≡ true
-unfolding isWithin
+pub past-within : (d : ℕ) (c : Clock) → ZeroPast d c → is_within d c ≡ true
+unfolding is_within
 past-within d c p =
-    mapAt-every (zeroPast d) c.n 0
+    map_at-every (zero_past d) c.n 0
     (λ k i. elim (dec_lt k d) [ yes h ↦ rw (lt-ltb k d h) | no h ↦ either (ltb k d) (eq-eqb (number c k) 0 (p k (omega arith))) ])
 
-pub zero-past : (d : ℕ) → ZeroPast d zeroClock
+pub zero-past : (d : ℕ) → ZeroPast d zero_clock
 zero-past d k h =
     elim (dec_lt k 8) [ yes i ↦ get_or-replicate 8 k 0 0 i | no i ↦ (let past : 8 ≤ k = omega arith in get_or-eq_default (replicate 8 0) 0 past) ]
 
@@ -94,43 +94,43 @@ pub merge-past : (d : ℕ) (a b : Clock) → ZeroPast d a → ZeroPast d b → Z
 merge-past d a b p q k h = omega (arith, merge-at a b k, p k h, q k h)
 
 -- ---- strictly before: as a rule, and back
-pub before-no-later : (a b : Clock) → isBefore a b ≡ true → NoLater a b
-unfolding isBefore
+pub before-no-later : (a b : Clock) → is_before a b ≡ true → NoLater a b
+unfolding is_before
 before-no-later a b e k =
     leb-true (number a k) (number b k)
     (sym (paired_at leb a.n b.n k) ∙ every-at (paired leb a.n b.n) (both_left (every (paired leb a.n b.n)) (some (paired ltb a.n b.n)) e) k)
 
-pub before-smaller : (a b : Clock) → isBefore a b ≡ true → (k : ℕ) × (number a k < number b k)
-unfolding isBefore
+pub before-smaller : (a b : Clock) → is_before a b ≡ true → (k : ℕ) × (number a k < number b k)
+unfolding is_before
 before-smaller a b e =
     let found = some_of (paired ltb a.n b.n) (both_right (every (paired leb a.n b.n)) (some (paired ltb a.n b.n)) e) in
     (found.0, ltb-true (number a found.0) (number b found.0) (sym (paired_at ltb a.n b.n found.0) ∙ found.1))
 
-pub is-before : (a b : Clock) (k : ℕ) → NoLater a b → number a k < number b k → isBefore a b ≡ true
-unfolding isBefore
+pub is-before : (a b : Clock) (k : ℕ) → NoLater a b → number a k < number b k → is_before a b ≡ true
+unfolding is_before
 is-before a b k p h =
     both
     (every_of (paired leb a.n b.n) (λ j _. paired_at leb a.n b.n j ∙ le-leb (number a j) (number b j) (p j)))
     (some_at (paired ltb a.n b.n) k (paired_at ltb a.n b.n k ∙ lt-ltb (number a k) (number b k) h))
 
-pub before-irrefl : (a : Clock) → isBefore a a ≡ false
-before-irrefl a = fails (isBefore a a) (λ e. omega (arith, (before-smaller a a e).1))
+pub before-irrefl : (a : Clock) → is_before a a ≡ false
+before-irrefl a = fails (is_before a a) (λ e. omega (arith, (before-smaller a a e).1))
 
-pub before-trans : (a b c : Clock) → isBefore a b ≡ true → isBefore b c ≡ true → isBefore a c ≡ true
+pub before-trans : (a b c : Clock) → is_before a b ≡ true → is_before b c ≡ true → is_before a c ≡ true
 before-trans a b c p q =
     let smaller = before-smaller a b p in
     is-before a c smaller.0 (λ k. omega (arith, before-no-later a b p k, before-no-later b c q k))
     (omega (arith, smaller.1, before-no-later b c q smaller.0))
 
-pub before-asym : (a b : Clock) → isBefore a b ≡ true → isBefore b a ≡ false
+pub before-asym : (a b : Clock) → is_before a b ≡ true → is_before b a ≡ false
 before-asym a b p =
-    fails (isBefore b a) (λ q. let smaller = before-smaller a b p in omega (arith, smaller.1, before-no-later b a q smaller.0))
+    fails (is_before b a) (λ q. let smaller = before-smaller a b p in omega (arith, smaller.1, before-no-later b a q smaller.0))
 
 -- no later, and not the same
-pub no-later-before : (a b : Clock) → length a.n ≡ length b.n → NoLater a b → (a ≡ b → ⊥) → isBefore a b ≡ true
-no-later-before a b e p differ = go (isBefore a b) refl
+pub no-later-before : (a b : Clock) → length a.n ≡ length b.n → NoLater a b → (a ≡ b → ⊥) → is_before a b ≡ true
+no-later-before a b e p differ = go (is_before a b) refl
   where
-    go : (t : Bool) → isBefore a b ≡ t → isBefore a b ≡ true
+    go : (t : Bool) → is_before a b ≡ t → is_before a b ≡ true
     go true q = q
     go false q = absurd (differ (same a b e equal))
       where
@@ -151,7 +151,7 @@ pub raised-other : (c : Clock) (k j : ℕ) → (j ≡ k → ⊥) → number (rai
 unfolding raised
 raised-other c k j ne = get_or-set_other c.n k j (number c k + 1) 0 ne
 
-pub raised-later : (c : Clock) (k : ℕ) → k < length c.n → isBefore c (raised c k) ≡ true
+pub raised-later : (c : Clock) (k : ℕ) → k < length c.n → is_before c (raised c k) ≡ true
 raised-later c k h =
     is-before c (raised c k) k
     (λ j. elim (ℕ_discrete j k) [ yes e ↦ rw e (omega (arith, raised_at c k h)) | no ne ↦ omega (arith, raised-other c k j ne) ])

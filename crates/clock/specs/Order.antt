@@ -10,7 +10,7 @@ use Rattle.std.proofs.Math.Dec.{leb, ltb, eqb}
 use Rattle.theory_lists.specs.Or.{ored, listed, listed-all}
 use Rattle.theory_lists.specs.Test.{every, some, gt_not_le}
 use Rattle.clock.specs.declared.Clock.{Clock}
-use Rattle.clock.specs.Clock.{number, paired, isBefore}
+use Rattle.clock.specs.Clock.{number, paired, is_before}
 use Rattle.clock.specs.Laws.{paired_at, length-paired}
 
 abbrev bit : Bool → ℕ
@@ -69,8 +69,8 @@ alone false true = refl
 alone false false = refl
 
 module _ (a b : Clock) (la : length a.n ≡ 8) (lb : length b.n ≡ 8) where
-  before-ored : eqb (ored 0 (listed (λ k. order_of (number a k) (number b k)) 0 8)) 1 ≡ isBefore a b
-  unfolding isBefore order_of
+  before-ored : eqb (ored 0 (listed (λ k. order_of (number a k) (number b k)) 0 8)) 1 ≡ is_before a b
+  unfolding is_before order_of
   before-ored =
       ap (λ (l : List ℕ). eqb (ored 0 l) 1)
       (listed-all (λ k. order_of (number a k) (number b k)) (paired order_of a.n b.n) 0 (paired_at order_of a.n b.n) 8
@@ -81,6 +81,6 @@ module _ (a b : Clock) (la : length a.n ≡ 8) (lb : length b.n ≡ 8) where
   -- as the code has it
   pub before-eight : (p q r s t u v w : ℕ) → OrderAt a b 0 p → OrderAt a b 1 q → OrderAt a b 2 r → OrderAt a b 3 s → OrderAt a b 4 t
       → OrderAt a b 5 u → OrderAt a b 6 v → OrderAt a b 7 w
-      → eqb (bit_or (bit_or (bit_or (bit_or (bit_or (bit_or (bit_or p q) r) s) t) u) v) w) 1 ≡ isBefore a b
+      → eqb (bit_or (bit_or (bit_or (bit_or (bit_or (bit_or (bit_or p q) r) s) t) u) v) w) 1 ≡ is_before a b
   unfolding ored listed
   before-eight p q r s t u v w e f g h i j k l = rw (e, f, g, h, i, j, k, l) before-ored

@@ -1,6 +1,6 @@
 // A clock: eight 32-bit numbers, one per desk. It tells which writes a desk knows of.
 ghost use Rattle.std.specs.Prelude.{◌≡◌, max};
-ghost use Rattle.clock.specs.Clock.{zeroClock, merged, isBefore, isWithin};
+ghost use Rattle.clock.specs.Clock.{zero_clock, merged, is_before, is_within};
 ghost use Rattle.clock.specs.Order.{order_of};
 
 #[repr(C)]
@@ -26,7 +26,7 @@ impl Clock {
 
     // Strictly before: no number is larger than the other clock's, and at least one is smaller.
     pub fn before(self, other: Clock) -> bool
-        ensures { result ≡ isBefore self other }
+        ensures { result ≡ is_before self other }
     {
         let all = order(self.n[0], other.n[0])
             | order(self.n[1], other.n[1])
@@ -41,7 +41,7 @@ impl Clock {
 
     // Whether the numbers past the desk count are 0.
     pub fn within(self, desks: u8) -> bool
-        ensures { result ≡ isWithin desks self }
+        ensures { result ≡ is_within desks self }
     {
         let count = desks as usize;
         let mut rest_zero = true;
@@ -72,7 +72,7 @@ fn larger(a: u32, b: u32) -> u32
 
 // A contract cannot name a constant, so this says what ZERO is.
 fn zero() -> Clock
-    ensures { result ≡ zeroClock }
+    ensures { result ≡ zero_clock }
 {
     Clock::ZERO
 }

@@ -8,7 +8,7 @@ use Rattle.desk.proofs.Message.TheLaws as M'
 use Rattle.desk_acts.proofs.Acts.{clock}
 use Rattle.frame.specs.contracts.Written as W
 use Rattle.frame.proofs.Written.TheLaws as W'
-use Rattle.frame.specs.Frame.{writeRule, outputRule}
+use Rattle.frame.specs.Frame.{write_rule, output_rule}
 use Rattle.frame_write.specs.Given.{given}
 use Rattle.walks.proofs.Parts.{Part, field_of}
 use Rattle.walks.proofs.Plain.{Plain, Args, Form, form, number, struct}
@@ -46,7 +46,7 @@ clock-in = field_of message-form 5 refl refl
 
 -- ---- the functions
 abbrev pub write : SharedFn message (number w8)
-write = record { R = written; ens = λ m xs r ys. (r ≡ writeRule m xs) × (ys ≡ outputRule m xs) }
+write = record { R = written; ens = λ m xs r ys. (r ≡ write_rule m xs) × (ys ≡ output_rule m xs) }
 
 abbrev handed-on : Args (number w8 ∷ number w8 ∷ number w8 ∷ number w8 ∷ number w32 ∷ clock ∷ []) → Message
 handed-on a = given a.0 a.1.0 a.1.1.0 a.1.1.1.0 a.1.1.1.1.0 a.1.1.1.1.1.0
@@ -61,9 +61,9 @@ abbrev pub bare : SliceFn (number w8)
 bare = record {
   Ps = clock ∷ number w32 ∷ number w8 ∷ number w8 ∷ number w8 ∷ [];
   R = written;
-  ens = λ xs a r ys. (r ≡ writeRule (asked-on a) xs) × (ys ≡ outputRule (asked-on a) xs);
-  res = λ xs a. writeRule (asked-on a) xs;
-  after = λ xs a. outputRule (asked-on a) xs;
+  ens = λ xs a r ys. (r ≡ write_rule (asked-on a) xs) × (ys ≡ output_rule (asked-on a) xs);
+  res = λ xs a. write_rule (asked-on a) xs;
+  after = λ xs a. output_rule (asked-on a) xs;
   says = λ xs a r ys e. e;
 }
 
@@ -71,8 +71,8 @@ abbrev pub by_parts : SliceFn (number w8)
 by_parts = record {
   Ps = number w8 ∷ number w8 ∷ number w8 ∷ number w8 ∷ number w32 ∷ clock ∷ [];
   R = written;
-  ens = λ xs a r ys. (r ≡ writeRule (handed-on a) xs) × (ys ≡ outputRule (handed-on a) xs);
-  res = λ xs a. writeRule (handed-on a) xs;
-  after = λ xs a. outputRule (handed-on a) xs;
+  ens = λ xs a r ys. (r ≡ write_rule (handed-on a) xs) × (ys ≡ output_rule (handed-on a) xs);
+  res = λ xs a. write_rule (handed-on a) xs;
+  after = λ xs a. output_rule (handed-on a) xs;
   says = λ xs a r ys e. e;
 }

@@ -1,10 +1,10 @@
 // The library for Rust and C. A lent record or table is made and stepped where it lies.
 ghost use Rattle.std.specs.Prelude.{◌≡◌};
-ghost use Rattle.desk.specs.Rules.{answer_of, eventRule, serveRule, bringRule};
-ghost use Rattle.desk.specs.Start.{startRule};
-ghost use Rattle.frame.specs.Frame.{readRule, writeRule, outputRule};
-ghost use Rattle.table.specs.Rules.{eventRule as tableRule};
-ghost use Rattle.table.specs.SetUp.{setUpRule};
+ghost use Rattle.desk.specs.Rules.{answer_of, event_rule, serve_rule, bring_rule};
+ghost use Rattle.desk.specs.Start.{start_rule};
+ghost use Rattle.frame.specs.Frame.{read_rule, write_rule, output_rule};
+ghost use Rattle.table.specs.Rules.{event_rule as table_rule};
+ghost use Rattle.table.specs.SetUp.{set_up_rule};
 
 use desk::{Answer, Event, Message, Plan, Record, Reply};
 use frame::{Reading, Written};
@@ -13,7 +13,7 @@ use table::Table;
 // A desk's fresh record, in place of the one that is lent; a refusal leaves it all zero.
 #[unsafe(no_mangle)]
 pub extern "C" fn cwmorlais_desk_start(v: &mut Record, plan: Plan, desk: u32) -> u32
-    ensures { (result ≡ (startRule plan desk).code) × (v.new ≡ (startRule plan desk).«record») }
+    ensures { (result ≡ (start_rule plan desk).code) × (v.new ≡ (start_rule plan desk).«record») }
 {
     desk_start::start(v, plan, desk)
 }
@@ -21,7 +21,7 @@ pub extern "C" fn cwmorlais_desk_start(v: &mut Record, plan: Plan, desk: u32) ->
 // The desk's user wants something. With code 1 the message is the request, for the cell's keeper.
 #[unsafe(no_mangle)]
 pub extern "C" fn cwmorlais_desk_event(v: &mut Record, e: Event) -> Answer
-    ensures { (result ≡ answer_of (eventRule v.old e)) × (v.new ≡ (eventRule v.old e).after) }
+    ensures { (result ≡ answer_of (event_rule v.old e)) × (v.new ≡ (event_rule v.old e).after) }
 {
     desk_step::event(v, e)
 }
@@ -29,7 +29,7 @@ pub extern "C" fn cwmorlais_desk_event(v: &mut Record, e: Event) -> Answer
 // A request came for a cell that this desk keeps. With code 0 the message is the answer, for the desk that asked.
 #[unsafe(no_mangle)]
 pub extern "C" fn cwmorlais_desk_serve(v: &mut Record, m: &Message) -> Answer
-    ensures { (result ≡ answer_of (serveRule v.old m.now)) × (v.new ≡ (serveRule v.old m.now).after) }
+    ensures { (result ≡ answer_of (serve_rule v.old m.now)) × (v.new ≡ (serve_rule v.old m.now).after) }
 {
     desk_step::serve(v, *m)
 }
@@ -37,7 +37,7 @@ pub extern "C" fn cwmorlais_desk_serve(v: &mut Record, m: &Message) -> Answer
 // The answer came to what this desk asked.
 #[unsafe(no_mangle)]
 pub extern "C" fn cwmorlais_desk_bring(v: &mut Record, m: &Message) -> Answer
-    ensures { (result ≡ answer_of (bringRule v.old m.now)) × (v.new ≡ (bringRule v.old m.now).after) }
+    ensures { (result ≡ answer_of (bring_rule v.old m.now)) × (v.new ≡ (bring_rule v.old m.now).after) }
 {
     desk_step::bring(v, *m)
 }
@@ -45,7 +45,7 @@ pub extern "C" fn cwmorlais_desk_bring(v: &mut Record, m: &Message) -> Answer
 // The message whose frame the bytes start with.
 #[unsafe(no_mangle)]
 pub extern "C" fn cwmorlais_frame_read(s: &[u8]) -> Reading
-    ensures { result ≡ readRule s.now }
+    ensures { result ≡ read_rule s.now }
 {
     frame_read::read(s)
 }
@@ -53,7 +53,7 @@ pub extern "C" fn cwmorlais_frame_read(s: &[u8]) -> Reading
 // The frame of a message, at the start of the output.
 #[unsafe(no_mangle)]
 pub extern "C" fn cwmorlais_frame_write(m: &Message, out: &mut [u8]) -> Written
-    ensures { (result ≡ writeRule m.now out.old) × (out.new ≡ outputRule m.now out.old) }
+    ensures { (result ≡ write_rule m.now out.old) × (out.new ≡ output_rule m.now out.old) }
 {
     if m.kind == 1 {
         return frame_write::bare(out, m.clock, m.word, m.desks, m.desk, m.cell);
@@ -64,7 +64,7 @@ pub extern "C" fn cwmorlais_frame_write(m: &Message, out: &mut [u8]) -> Written
 // A fresh table, in place of the one that is lent; a refusal leaves it all zero.
 #[unsafe(no_mangle)]
 pub extern "C" fn cwmorlais_table_set_up(t: &mut Table, plan: Plan) -> u32
-    ensures { (result ≡ (setUpRule plan).code) × (t.new ≡ (setUpRule plan).table) }
+    ensures { (result ≡ (set_up_rule plan).code) × (t.new ≡ (set_up_rule plan).table) }
 {
     table_set_up::set_up(t, plan)
 }
@@ -72,7 +72,7 @@ pub extern "C" fn cwmorlais_table_set_up(t: &mut Table, plan: Plan) -> u32
 // One event on the lent table.
 #[unsafe(no_mangle)]
 pub extern "C" fn cwmorlais_table_event(t: &mut Table, e: Event) -> Reply
-    ensures { (result ≡ (tableRule t.old e).reply) × (t.new ≡ (tableRule t.old e).after) }
+    ensures { (result ≡ (table_rule t.old e).reply) × (t.new ≡ (table_rule t.old e).after) }
 {
     table_step::event(t, e)
 }

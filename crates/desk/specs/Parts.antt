@@ -4,7 +4,7 @@ use Rattle.std.specs.Prelude.{Bool, false, not, ◌&&◌, cond, ◌≡◌, ℕ, 
 use Rattle.std.proofs.Math.Decide.{ℕ_discrete}
 use Rattle.std.proofs.Common.{arith, eq-eqb, ne_eqb}
 use Rattle.clock.specs.declared.Clock.{Clock}
-use Rattle.clock.specs.Clock.{merged, isBefore, raised}
+use Rattle.clock.specs.Clock.{merged, is_before, raised}
 use Rattle.theory_lists.specs.Test.{whichever}
 use Rattle.desk.specs.declared.Answer.{Answer}
 use Rattle.desk.specs.declared.Cell.{Cell}
@@ -14,51 +14,51 @@ use Rattle.desk.specs.declared.Message.{Message}
 use Rattle.desk.specs.declared.Reply.{Reply}
 use Rattle.desk.specs.declared.Seat.{Seat}
 use Rattle.desk.specs.declared.Slot.{Slot}
-use Rattle.desk.specs.Desk.{Word, no_word, isBlank, noCell, no_slot, noMessage, oneIf, heldCell, answerKind}
-use Rattle.desk.specs.Rules.{withClock, withSlot, shownCode, refusedReply, readAsked, writeAsked, answerTo, markedServed}
+use Rattle.desk.specs.Desk.{Word, no_word, is_blank, no_cell, no_slot, no_message, one_if, held_cell, answer_kind}
+use Rattle.desk.specs.Rules.{with_clock, with_slot, shown_code, refused_reply, read_asked, write_asked, answer_to, marked_served}
 
 -- ---- an own event
 -- what it changes: 0 nothing, 1 the desk asks, 2 it stores, 3 it gives up
-unfoldable pub changeOf : Bool → Cell → Event → ℕ
-changeOf kept x e = cond (eqb e.kind 1) (cond x.held 0 1) (cond (eqb e.kind 2) (cond kept 2 1) 3)
+unfoldable pub change_of : Bool → Cell → Event → ℕ
+change_of kept x e = cond (eqb e.kind 1) (cond x.held 0 1) (cond (eqb e.kind 2) (cond kept 2 1) 3)
 
 -- the request, and the seat that it stands in
-unfoldable pub askedFor : Seat → ℕ → Event → Slot
-askedFor s desk e = cond (eqb e.kind 1) (readAsked e.cell) (writeAsked e.cell e.word (raised s.clock desk))
+unfoldable pub asked_for : Seat → ℕ → Event → Slot
+asked_for s desk e = cond (eqb e.kind 1) (read_asked e.cell) (write_asked e.cell e.word (raised s.clock desk))
 
-abbrev pub askingSeat : Seat → ℕ → Event → Seat
-askingSeat s desk e = withSlot s (askedFor s desk e) false
+abbrev pub asking_seat : Seat → ℕ → Event → Seat
+asking_seat s desk e = with_slot s (asked_for s desk e) false
 
 -- the keeper's seat at its own write
-abbrev pub raisedSeat : Seat → ℕ → Seat
-raisedSeat s desk = withClock s (raised s.clock desk)
+abbrev pub raised_seat : Seat → ℕ → Seat
+raised_seat s desk = with_clock s (raised s.clock desk)
 
-abbrev pub replyOf : ℕ → Word → ℕ → Reply
-replyOf code value count = record { code = code; value = value; count = count }
+abbrev pub reply_of : ℕ → Word → ℕ → Reply
+reply_of code value count = record { code = code; value = value; count = count }
 
-unfoldable pub readReply : Cell → Reply
-readReply x = cond x.held (replyOf (shownCode (isBlank x.stamp)) x.word 0) (replyOf 1 no_word 0)
+unfoldable pub read_reply : Cell → Reply
+read_reply x = cond x.held (reply_of (shown_code (is_blank x.stamp)) x.word 0) (reply_of 1 no_word 0)
 
-unfoldable pub writeReply : Bool → Word → Reply
-writeReply kept w = cond kept (replyOf 0 w 0) (replyOf 1 no_word 0)
+unfoldable pub write_reply : Bool → Word → Reply
+write_reply kept w = cond kept (reply_of 0 w 0) (reply_of 1 no_word 0)
 
-unfoldable pub ownReply : Bool → Cell → Event → Reply
-ownReply kept x e =
-    cond (eqb e.kind 1) (readReply x)
-    (cond (eqb e.kind 2) (writeReply kept e.word)
-    (replyOf 0 no_word (oneIf (x.held && not kept))))
+unfoldable pub own_reply : Bool → Cell → Event → Reply
+own_reply kept x e =
+    cond (eqb e.kind 1) (read_reply x)
+    (cond (eqb e.kind 2) (write_reply kept e.word)
+    (reply_of 0 no_word (one_if (x.held && not kept))))
 
 -- a desk asks only at a read or a write, and stores only at a write
-pub change-asks : (kept : Bool) (x : Cell) (e : Event) → changeOf kept x e ≡ 1 → (e.kind ≡ 1 → ⊥) → e.kind ≡ 2
-unfolding changeOf
+pub change-asks : (kept : Bool) (x : Cell) (e : Event) → change_of kept x e ≡ 1 → (e.kind ≡ 1 → ⊥) → e.kind ≡ 2
+unfolding change_of
 change-asks kept x e q ne =
     elim (ℕ_discrete e.kind 2) [
       | yes k ↦ k
       | no k ↦ absurd (omega (arith, rw (ne_eqb e.kind 1 ne, ne_eqb e.kind 2 k) at q))
     ]
 
-pub change-stores : (kept : Bool) (x : Cell) (e : Event) → changeOf kept x e ≡ 2 → e.kind ≡ 2
-unfolding changeOf
+pub change-stores : (kept : Bool) (x : Cell) (e : Event) → change_of kept x e ≡ 2 → e.kind ≡ 2
+unfolding change_of
 change-stores kept x e q =
     elim (ℕ_discrete e.kind 1) [
       | yes k ↦ absurd (whichever (λ (n : ℕ). n ≡ 2 → ⊥) x.held 0 1 (omega arith) (omega arith) (rw (eq-eqb e.kind 1 k) at q))
@@ -70,42 +70,42 @@ change-stores kept x e q =
 
 -- ---- serving, and bringing
 -- the keeper's seat once it has taken a write
-abbrev pub tookSeat : Seat → Clock → Seat
-tookSeat s sent = withClock (markedServed s) (merged s.clock sent)
+abbrev pub took_seat : Seat → Clock → Seat
+took_seat s sent = with_clock (marked_served s) (merged s.clock sent)
 
 -- the asker's seat with what its keeper's cell answers
-abbrev pub answeredSeat : Seat → Cell → Seat
-answeredSeat s x = withSlot s (record { kind = answerKind s.slot.kind; cell = s.slot.cell; word = x.word; clock = x.stamp }) s.served
+abbrev pub answered_seat : Seat → Cell → Seat
+answered_seat s x = with_slot s (record { kind = answer_kind s.slot.kind; cell = s.slot.cell; word = x.word; clock = x.stamp }) s.served
 
 -- a seat that has its answer, and the cell that the answer names
-abbrev pub homeSeat : Seat → Clock → Seat
-homeSeat s stamp = withSlot (withClock s (merged s.clock stamp)) no_slot false
+abbrev pub home_seat : Seat → Clock → Seat
+home_seat s stamp = with_slot (with_clock s (merged s.clock stamp)) no_slot false
 
-abbrev pub broughtCell : Bool → Word → Clock → Cell
-broughtCell served word stamp = cond served noCell (heldCell word stamp)
+abbrev pub brought_cell : Bool → Word → Clock → Cell
+brought_cell served word stamp = cond served no_cell (held_cell word stamp)
 
-abbrev pub broughtReply : ℕ → Word → Clock → ℕ → Reply
-broughtReply kind word stamp count = replyOf (shownCode (eqb kind 3 && isBlank stamp)) word count
+abbrev pub brought_reply : ℕ → Word → Clock → ℕ → Reply
+brought_reply kind word stamp count = reply_of (shown_code (eqb kind 3 && is_blank stamp)) word count
 
 -- a copy's fate, told whether its desk keeps the cell
-abbrev pub losesIf : Bool → Clock → Cell → Bool
-losesIf kept learnt x = x.held && not kept && isBefore x.stamp learnt
+abbrev pub loses_if : Bool → Clock → Cell → Bool
+loses_if kept learnt x = x.held && not kept && is_before x.stamp learnt
 
 -- ---- a record's steps: what they answer
-abbrev pub refusedAnswer : ℕ → Answer
-refusedAnswer n = record { reply = refusedReply n; message = noMessage }
+abbrev pub refused_answer : ℕ → Answer
+refused_answer n = record { reply = refused_reply n; message = no_message }
 
 -- a desk that asks (change 1) sends what stands in its slot
-unfoldable pub askedMessage : ℕ → Counts → ℕ → Slot → Message
-askedMessage change n desk s =
-    cond (eqb change 1) (record { kind = s.kind; desks = n.desks; desk = desk; cell = s.cell; word = s.word; clock = s.clock }) noMessage
+unfoldable pub asked_message : ℕ → Counts → ℕ → Slot → Message
+asked_message change n desk s =
+    cond (eqb change 1) (record { kind = s.kind; desks = n.desks; desk = desk; cell = s.cell; word = s.word; clock = s.clock }) no_message
 
-unfoldable pub ownAnswer : Bool → Cell → Event → Counts → ℕ → Slot → Answer
-ownAnswer kept x e n desk s = record { reply = ownReply kept x e; message = askedMessage (changeOf kept x e) n desk s }
+unfoldable pub own_answer : Bool → Cell → Event → Counts → ℕ → Slot → Answer
+own_answer kept x e n desk s = record { reply = own_reply kept x e; message = asked_message (change_of kept x e) n desk s }
 
 -- a keeper answers with what its cell now has
-abbrev pub servedAnswer : ℕ → Message → Cell → Answer
-servedAnswer count m x = record { reply = replyOf 0 no_word count; message = answerTo m x.word x.stamp }
+abbrev pub served_answer : ℕ → Message → Cell → Answer
+served_answer count m x = record { reply = reply_of 0 no_word count; message = answer_to m x.word x.stamp }
 
-abbrev pub broughtAnswer : ℕ → Message → Answer
-broughtAnswer count m = record { reply = broughtReply m.kind m.word m.clock count; message = noMessage }
+abbrev pub brought_answer : ℕ → Message → Answer
+brought_answer count m = record { reply = brought_reply m.kind m.word m.clock count; message = no_message }

@@ -6,64 +6,64 @@ use Rattle.std.proofs.Math.Bool.{or-true}
 use Rattle.std.proofs.Math.Decide.{dec_le, dec_lt}
 use borrow.Author.Tests.{ltb-true, leb-true, eqb-true, lt-ltb, le-ltb, le-leb, lt-leb, eq-eqb, not-true}
 use Rattle.clock.specs.declared.Clock.{Clock}
-use Rattle.clock.specs.Clock.{isWithin}
+use Rattle.clock.specs.Clock.{is_within}
 use Rattle.clock.specs.Laws.{ZeroPast, within-past, past-within}
-use Rattle.theory_lists.specs.Test.{fails, both, both_left, both_right, every-mapAt, mapAt-every}
+use Rattle.theory_lists.specs.Test.{fails, both, both_left, both_right, every-map_at, map_at-every}
 use Rattle.desk.specs.declared.Cell.{Cell}
 use Rattle.desk.specs.declared.Counts.{Counts}
 use Rattle.desk.specs.declared.Record.{Record}
 use Rattle.desk.specs.declared.Seat.{Seat}
 use Rattle.desk.specs.declared.Slot.{Slot}
 use Rattle.desk.specs.declared.Tray.{Tray}
-use Rattle.desk.specs.Desk.{Word, no_word, isNoWord, isBlank, noPlace, pastCell, cell_at, placeAt, keeperOf, isUsed, keeps, waits}
-use Rattle.desk.specs.Sound.{countsSound, placeSound, traySound, wordFits, sentFits, cellFits, cellSound, slotNames, slotCarries, slotSound}
-use Rattle.desk.specs.Sound.{numbersOf, seatSound, cellsSound, isSound}
+use Rattle.desk.specs.Desk.{Word, no_word, is_no_word, is_blank, no_place, past_cell, cell_at, place_at, keeper_of, is_used, keeps, waits}
+use Rattle.desk.specs.Sound.{counts_sound, place_sound, tray_sound, word_fits, sent_fits, cell_fits, cell_sound, slot_names, slot_carries, slot_sound}
+use Rattle.desk.specs.Sound.{numbers_of, seat_sound, cells_sound, is_sound}
 
 pub no_way : {A : Type 0} (b : Bool) → b ≡ true → b ≡ false → A
 no_way b p q = let z : ◌≡◌ {A = ℕ} 0 1 = cc in absurd (omega arith)
 
 -- ---- words
-pub no-word-is : (w : Word) → isNoWord w ≡ true → w ≡ no_word
-unfolding isNoWord
+pub no-word-is : (w : Word) → is_no_word w ≡ true → w ≡ no_word
+unfolding is_no_word
 no-word-is w = eqb-true w no_word
 
-pub is-no-word : (w : Word) → w ≡ no_word → isNoWord w ≡ true
-unfolding isNoWord
+pub is-no-word : (w : Word) → w ≡ no_word → is_no_word w ≡ true
+unfolding is_no_word
 is-no-word w = eq-eqb w no_word
 
 -- ---- blank
-pub blank-is : (k : Clock) → isBlank k ≡ true → ZeroPast 0 k
-unfolding isBlank
+pub blank-is : (k : Clock) → is_blank k ≡ true → ZeroPast 0 k
+unfolding is_blank
 blank-is k = within-past 0 k
 
-pub is-blank : (k : Clock) → ZeroPast 0 k → isBlank k ≡ true
-unfolding isBlank
+pub is-blank : (k : Clock) → ZeroPast 0 k → is_blank k ≡ true
+unfolding is_blank
 is-blank k = past-within 0 k
 
 -- "word 0 wherever a stamp is all zeros"
-pub word-rule : (w : Word) (k : Clock) → wordFits w k ≡ true → ZeroPast 0 k → w ≡ no_word
-unfolding wordFits
+pub word-rule : (w : Word) (k : Clock) → word_fits w k ≡ true → ZeroPast 0 k → w ≡ no_word
+unfolding word_fits
 word-rule w k e z = no-word-is w (rw (is-blank k z) at e)
 
-pub rule-word : (w : Word) (k : Clock) → (ZeroPast 0 k → w ≡ no_word) → wordFits w k ≡ true
-unfolding wordFits
-rule-word w k p = go (isBlank k) refl
+pub rule-word : (w : Word) (k : Clock) → (ZeroPast 0 k → w ≡ no_word) → word_fits w k ≡ true
+unfolding word_fits
+rule-word w k p = go (is_blank k) refl
   where
-    go : (b : Bool) → isBlank k ≡ b → (not b || isNoWord w) ≡ true
+    go : (b : Bool) → is_blank k ≡ b → (not b || is_no_word w) ≡ true
     go true e = is-no-word w (p (blank-is k e))
     go false e = refl
 
 -- "no write-asked clock is all zeros"
-pub sent-rule : (kind : ℕ) (k : Clock) → sentFits kind k ≡ true → kind ≡ 2 → ZeroPast 0 k → ⊥
-unfolding sentFits
-sent-rule kind k e two z = no_way (sentFits kind k) e (rw (eq-eqb kind 2 two, is-blank k z))
+pub sent-rule : (kind : ℕ) (k : Clock) → sent_fits kind k ≡ true → kind ≡ 2 → ZeroPast 0 k → ⊥
+unfolding sent_fits
+sent-rule kind k e two z = no_way (sent_fits kind k) e (rw (eq-eqb kind 2 two, is-blank k z))
 
-pub rule-sent : (kind : ℕ) (k : Clock) → (kind ≡ 2 → ZeroPast 0 k → ⊥) → sentFits kind k ≡ true
-unfolding sentFits
+pub rule-sent : (kind : ℕ) (k : Clock) → (kind ≡ 2 → ZeroPast 0 k → ⊥) → sent_fits kind k ≡ true
+unfolding sent_fits
 rule-sent kind k p =
     ap not
-    (fails (eqb kind 2 && isBlank k)
-    (λ e. p (eqb-true kind 2 (both_left (eqb kind 2) (isBlank k) e)) (blank-is k (both_right (eqb kind 2) (isBlank k) e))))
+    (fails (eqb kind 2 && is_blank k)
+    (λ e. p (eqb-true kind 2 (both_left (eqb kind 2) (is_blank k) e)) (blank-is k (both_right (eqb kind 2) (is_blank k) e))))
 
 -- ---- the tray
 pub record TrayRule (t : Tray) : Type 0 where
@@ -71,26 +71,26 @@ pub record TrayRule (t : Tray) : Type 0 where
   pub desks-most : t.counts.desks ≤ 8
   pub some-cell : 1 ≤ t.counts.cells
   pub cells-most : t.counts.cells ≤ 32
-  pub place_is : (c : ℕ) → c < length t.places → placeSound t.counts c (placeAt t c) ≡ true
+  pub place_is : (c : ℕ) → c < length t.places → place_sound t.counts c (place_at t c) ≡ true
 
-pub tray-rule : (t : Tray) → traySound t ≡ true → TrayRule t
-unfolding traySound countsSound
+pub tray-rule : (t : Tray) → tray_sound t ≡ true → TrayRule t
+unfolding tray_sound counts_sound
 tray-rule t e =
     record {
       some-desk = leb-true 1 t.counts.desks (search (both_left, both_right));
       desks-most = leb-true t.counts.desks 8 (search (both_left, both_right));
       some-cell = leb-true 1 t.counts.cells (search (both_left, both_right));
       cells-most = leb-true t.counts.cells 32 (search (both_left, both_right));
-      place_is = every-mapAt (placeSound t.counts) t.places noPlace (search (both_left, both_right));
+      place_is = every-map_at (place_sound t.counts) t.places no_place (search (both_left, both_right));
     }
 
-pub rule-tray : (t : Tray) → TrayRule t → traySound t ≡ true
-unfolding traySound countsSound
+pub rule-tray : (t : Tray) → TrayRule t → tray_sound t ≡ true
+unfolding tray_sound counts_sound
 rule-tray t r =
     both
     (both (both (le-leb 1 t.counts.desks r.some-desk) (le-leb t.counts.desks 8 r.desks-most))
     (both (le-leb 1 t.counts.cells r.some-cell) (le-leb t.counts.cells 32 r.cells-most)))
-    (mapAt-every (placeSound t.counts) t.places noPlace r.place_is)
+    (map_at-every (place_sound t.counts) t.places no_place r.place_is)
 
 -- ---- keepers
 module _ (t : Tray) (desk c : ℕ) where
@@ -98,34 +98,34 @@ module _ (t : Tray) (desk c : ℕ) where
   unfolding keeps
   keeps-in e = ltb-true c t.counts.cells (search both_left)
 
-  pub is-keeper : keeps t desk c ≡ true → keeperOf t c ≡ desk
+  pub is-keeper : keeps t desk c ≡ true → keeper_of t c ≡ desk
   unfolding keeps
-  is-keeper e = eqb-true (keeperOf t c) desk (both_right (ltb c t.counts.cells) (eqb (keeperOf t c) desk) e)
+  is-keeper e = eqb-true (keeper_of t c) desk (both_right (ltb c t.counts.cells) (eqb (keeper_of t c) desk) e)
 
-  pub keeper-keeps : keeperOf t c ≡ desk → c < t.counts.cells → keeps t desk c ≡ true
+  pub keeper-keeps : keeper_of t c ≡ desk → c < t.counts.cells → keeps t desk c ≡ true
   unfolding keeps
-  keeper-keeps k h = both (lt-ltb c t.counts.cells h) (eq-eqb (keeperOf t c) desk k)
+  keeper-keeps k h = both (lt-ltb c t.counts.cells h) (eq-eqb (keeper_of t c) desk k)
 
-  pub no-keeper : keeps t desk c ≡ false → c < t.counts.cells → keeperOf t c ≡ desk → ⊥
+  pub no-keeper : keeps t desk c ≡ false → c < t.counts.cells → keeper_of t c ≡ desk → ⊥
   no-keeper e h k = no_way (keeps t desk c) (keeper-keeps k h) e
 
 -- a cell's keeper is a desk
-pub keeper-desk : (t : Tray) (c : ℕ) → TrayRule t → length t.places ≡ 32 → c < t.counts.cells → keeperOf t c < t.counts.desks
-unfolding placeSound
+pub keeper-desk : (t : Tray) (c : ℕ) → TrayRule t → length t.places ≡ 32 → c < t.counts.cells → keeper_of t c < t.counts.desks
+unfolding place_sound
 keeper-desk t c r long h =
-    ltb-true (keeperOf t c) t.counts.desks (rw (lt-ltb c t.counts.cells h) at (r.place_is c (omega (arith, r.cells-most))))
+    ltb-true (keeper_of t c) t.counts.desks (rw (lt-ltb c t.counts.cells h) at (r.place_is c (omega (arith, r.cells-most))))
 
 -- ---- used entries
 abbrev pub Used : Counts → ℕ → ℕ → Type 0
 Used n desk c = (desk < n.desks) × (c < n.cells)
 
-pub used-is : (n : Counts) (desk c : ℕ) → isUsed n desk c ≡ true → Used n desk c
+pub used-is : (n : Counts) (desk c : ℕ) → is_used n desk c ≡ true → Used n desk c
 used-is n desk c e = (
   ltb-true desk n.desks (both_left (ltb desk n.desks) (ltb c n.cells) e),
   ltb-true c n.cells (both_right (ltb desk n.desks) (ltb c n.cells) e),
 )
 
-pub is-used : (n : Counts) (desk c : ℕ) → Used n desk c → isUsed n desk c ≡ true
+pub is-used : (n : Counts) (desk c : ℕ) → Used n desk c → is_used n desk c ≡ true
 is-used n desk c u = both (lt-ltb desk n.desks u.0) (lt-ltb c n.cells u.1)
 
 -- ---- a cell
@@ -136,13 +136,13 @@ pub record CellRule (t : Tray) (desk c : ℕ) (x : Cell) : Type 0 where
   pub no-stamp : x.held ≡ false → ZeroPast 0 x.stamp
   pub no-word : ZeroPast 0 x.stamp → x.word ≡ no_word
 
-pub cell-rule : (t : Tray) (desk c : ℕ) (x : Cell) → cellSound t desk c x ≡ true → CellRule t desk c x
-unfolding cellSound cellFits keeps
+pub cell-rule : (t : Tray) (desk c : ℕ) (x : Cell) → cell_sound t desk c x ≡ true → CellRule t desk c x
+unfolding cell_sound cell_fits keeps
 cell-rule t desk c x e = go x.held refl
   where
     go : (h : Bool) → x.held ≡ h → CellRule t desk c x
     go true p =
-        let held : (isUsed t.counts desk c && isWithin t.counts.desks x.stamp && wordFits x.word x.stamp) ≡ true = rw p at e in
+        let held : (is_used t.counts desk c && is_within t.counts.desks x.stamp && word_fits x.word x.stamp) ≡ true = rw p at e in
         record {
           used = λ _. used-is t.counts desk c (search (both_left, both_right));
           keeper-holds = λ _. p;
@@ -151,7 +151,7 @@ cell-rule t desk c x e = go x.held refl
           no-word = word-rule x.word x.stamp (search (both_left, both_right));
         }
     go false p =
-        let none : (not (keeps t desk c) && isNoWord x.word && isWithin 0 x.stamp) ≡ true = rw p at e in
+        let none : (not (keeps t desk c) && is_no_word x.word && is_within 0 x.stamp) ≡ true = rw p at e in
         let zeros : ZeroPast 0 x.stamp = within-past 0 x.stamp (search (both_left, both_right)) in
         record {
           used = λ q. no_way x.held q p;
@@ -161,11 +161,11 @@ cell-rule t desk c x e = go x.held refl
           no-word = λ _. no-word-is x.word (search (both_left, both_right));
         }
 
-pub rule-cell : (t : Tray) (desk c : ℕ) (x : Cell) → CellRule t desk c x → cellSound t desk c x ≡ true
-unfolding cellSound cellFits keeps
+pub rule-cell : (t : Tray) (desk c : ℕ) (x : Cell) → CellRule t desk c x → cell_sound t desk c x ≡ true
+unfolding cell_sound cell_fits keeps
 rule-cell t desk c x r = go x.held refl
   where
-    go : (h : Bool) → x.held ≡ h → cellSound t desk c x ≡ true
+    go : (h : Bool) → x.held ≡ h → cell_sound t desk c x ≡ true
     go true p =
         rw p
         (both (both (is-used t.counts desk c (r.used p)) (past-within t.counts.desks x.stamp r.stamp-past))
@@ -186,52 +186,52 @@ pub record SlotRule (t : Tray) (desk : ℕ) (s : Slot) : Type 0 where
   pub no-word : ZeroPast 0 s.clock → s.word ≡ no_word
   pub sent : s.kind ≡ 2 → ZeroPast 0 s.clock → ⊥
 
-pub slot-rule : (t : Tray) (desk : ℕ) (s : Slot) → slotSound t desk s ≡ true → SlotRule t desk s
-unfolding slotSound slotNames slotCarries
+pub slot-rule : (t : Tray) (desk : ℕ) (s : Slot) → slot_sound t desk s ≡ true → SlotRule t desk s
+unfolding slot_sound slot_names slot_carries
 slot-rule t desk s e =
     record {
       kind-most = leb-true s.kind 4 (search (both_left, both_right));
-      used = λ w. used-is t.counts desk s.cell (both_left (isUsed t.counts desk s.cell) (not (keeps t desk s.cell)) (rw w at names));
+      used = λ w. used-is t.counts desk s.cell (both_left (is_used t.counts desk s.cell) (not (keeps t desk s.cell)) (rw w at names));
       not-kept =
           λ w.
-          not-true (keeps t desk s.cell) (both_right (isUsed t.counts desk s.cell) (not (keeps t desk s.cell)) (rw w at names));
+          not-true (keeps t desk s.cell) (both_right (is_used t.counts desk s.cell) (not (keeps t desk s.cell)) (rw w at names));
       no_cell = λ w. eqb-true s.cell 0 (rw w at names);
       clock-past =
           λ k h.
           elim (dec_le s.kind 1) [
             | yes l ↦ no-clock l k zero-le
-            | no l ↦ within-past t.counts.desks s.clock (both_left (isWithin t.counts.desks s.clock) (wordFits s.word s.clock) (full (omega arith))) k h
+            | no l ↦ within-past t.counts.desks s.clock (both_left (is_within t.counts.desks s.clock) (word_fits s.word s.clock) (full (omega arith))) k h
           ];
       no-clock = no-clock;
       no-word =
           elim (dec_le s.kind 1) [
-            | yes l ↦ λ _. no-word-is s.word (both_left (isNoWord s.word) (isWithin 0 s.clock) (rw (le-leb s.kind 1 l) at carries))
-            | no l ↦ word-rule s.word s.clock (both_right (isWithin t.counts.desks s.clock) (wordFits s.word s.clock) (full (omega arith)))
+            | yes l ↦ λ _. no-word-is s.word (both_left (is_no_word s.word) (is_within 0 s.clock) (rw (le-leb s.kind 1 l) at carries))
+            | no l ↦ word-rule s.word s.clock (both_right (is_within t.counts.desks s.clock) (word_fits s.word s.clock) (full (omega arith)))
           ];
       sent = sent-rule s.kind s.clock (search (both_left, both_right));
     }
   where
-    names : slotNames t desk s ≡ true
+    names : slot_names t desk s ≡ true
     names = search (both_left, both_right)
 
-    carries : cond (leb s.kind 1) (isNoWord s.word && isWithin 0 s.clock) (isWithin t.counts.desks s.clock && wordFits s.word s.clock) ≡ true
+    carries : cond (leb s.kind 1) (is_no_word s.word && is_within 0 s.clock) (is_within t.counts.desks s.clock && word_fits s.word s.clock) ≡ true
     carries = search (both_left, both_right)
 
-    full : 1 < s.kind → (isWithin t.counts.desks s.clock && wordFits s.word s.clock) ≡ true
+    full : 1 < s.kind → (is_within t.counts.desks s.clock && word_fits s.word s.clock) ≡ true
     full l = rw (lt-leb s.kind 1 l) at carries
 
     no-clock : s.kind ≤ 1 → ZeroPast 0 s.clock
-    no-clock l = within-past 0 s.clock (both_right (isNoWord s.word) (isWithin 0 s.clock) (rw (le-leb s.kind 1 l) at carries))
+    no-clock l = within-past 0 s.clock (both_right (is_no_word s.word) (is_within 0 s.clock) (rw (le-leb s.kind 1 l) at carries))
 
-pub rule-slot : (t : Tray) (desk : ℕ) (s : Slot) → SlotRule t desk s → slotSound t desk s ≡ true
-unfolding slotSound slotNames slotCarries
+pub rule-slot : (t : Tray) (desk : ℕ) (s : Slot) → SlotRule t desk s → slot_sound t desk s ≡ true
+unfolding slot_sound slot_names slot_carries
 rule-slot t desk s r = both (both (le-leb s.kind 4 r.kind-most) (names (waits s) refl)) carries
   where
-    names : (w : Bool) → waits s ≡ w → slotNames t desk s ≡ true
+    names : (w : Bool) → waits s ≡ w → slot_names t desk s ≡ true
     names true w = rw w (both (is-used t.counts desk s.cell (r.used w)) (ap not (r.not-kept w)))
     names false w = rw w (eq-eqb s.cell 0 (r.no_cell w))
 
-    carries : slotCarries t.counts s ≡ true
+    carries : slot_carries t.counts s ≡ true
     carries =
         elim (dec_le s.kind 1) [
           | yes l ↦ rw (le-leb s.kind 1 l)
@@ -240,20 +240,20 @@ rule-slot t desk s r = both (both (le-leb s.kind 4 r.kind-most) (names (waits s)
               (both (both (past-within t.counts.desks s.clock r.clock-past) (rule-word s.word s.clock r.no-word)) sent)
         ]
       where
-        sent : sentFits s.kind s.clock ≡ true
+        sent : sent_fits s.kind s.clock ≡ true
         sent = rule-sent s.kind s.clock r.sent
 
 -- ---- what a desk has beside its cells
 pub record SeatRule (t : Tray) (desk : ℕ) (s : Seat) : Type 0 where
-  pub numbers-past : ZeroPast (numbersOf t.counts desk) s.clock
+  pub numbers-past : ZeroPast (numbers_of t.counts desk) s.clock
   pub slot_is : SlotRule t desk s.slot
   pub served-waits : s.served ≡ true → waits s.slot ≡ true
 
-pub seat-rule : (t : Tray) (desk : ℕ) (s : Seat) → seatSound t desk s ≡ true → SeatRule t desk s
-unfolding seatSound
+pub seat-rule : (t : Tray) (desk : ℕ) (s : Seat) → seat_sound t desk s ≡ true → SeatRule t desk s
+unfolding seat_sound
 seat-rule t desk s e =
     record {
-      numbers-past = within-past (numbersOf t.counts desk) s.clock (search (both_left, both_right));
+      numbers-past = within-past (numbers_of t.counts desk) s.clock (search (both_left, both_right));
       slot_is = slot-rule t desk s.slot (search (both_left, both_right));
       served-waits = λ on. or-not (waits s.slot) s.served on (search (both_left, both_right));
     }
@@ -262,11 +262,11 @@ seat-rule t desk s e =
     or-not true b p q = refl
     or-not false b p q = no_way b p (not-true b q)
 
-pub rule-seat : (t : Tray) (desk : ℕ) (s : Seat) → SeatRule t desk s → seatSound t desk s ≡ true
-unfolding seatSound
+pub rule-seat : (t : Tray) (desk : ℕ) (s : Seat) → SeatRule t desk s → seat_sound t desk s ≡ true
+unfolding seat_sound
 rule-seat t desk s r =
     both
-    (both (past-within (numbersOf t.counts desk) s.clock r.numbers-past) (rule-slot t desk s.slot r.slot_is))
+    (both (past-within (numbers_of t.counts desk) s.clock r.numbers-past) (rule-slot t desk s.slot r.slot_is))
     (served s.served refl)
   where
     served : (b : Bool) → s.served ≡ b → (waits s.slot || not s.served) ≡ true
@@ -275,10 +275,10 @@ rule-seat t desk s r =
 
 -- a desk that is there has a number for each desk; in any case none past the desk count
 module _ (n : Counts) (desk : ℕ) (k : Clock) where
-  pub all-numbers : desk < n.desks → ZeroPast n.desks k → ZeroPast (numbersOf n desk) k
+  pub all-numbers : desk < n.desks → ZeroPast n.desks k → ZeroPast (numbers_of n desk) k
   all-numbers h p = rw (lt-ltb desk n.desks h) p
 
-  pub past-count : ZeroPast (numbersOf n desk) k → ZeroPast n.desks k
+  pub past-count : ZeroPast (numbers_of n desk) k → ZeroPast n.desks k
   past-count p =
       elim (dec_lt desk n.desks) [
         | yes h ↦ rw (lt-ltb desk n.desks h) at p
@@ -296,8 +296,8 @@ pub record SoundRule (v : Record) : Type 0 where
   pub row_is : RowRule v
   pub asked : v.seat.slot.kind ≤ 2
 
-pub sound-rule : (v : Record) → isSound v ≡ true → SoundRule v
-unfolding isSound cellsSound
+pub sound-rule : (v : Record) → is_sound v ≡ true → SoundRule v
+unfolding is_sound cells_sound
 sound-rule v e =
     record {
       tray-is = tray-rule v.tray (search (both_left, both_right));
@@ -306,19 +306,19 @@ sound-rule v e =
         cell-is =
             λ c h.
             cell-rule v.tray v.desk c (cell_at v.row c)
-            (every-mapAt (cellSound v.tray v.desk) v.row pastCell (search (both_left, both_right)) c h);
+            (every-map_at (cell_sound v.tray v.desk) v.row past_cell (search (both_left, both_right)) c h);
         seat-is = seat-rule v.tray v.desk v.seat (search (both_left, both_right));
       };
       asked = leb-true v.seat.slot.kind 2 (search (both_left, both_right));
     }
 
-pub rule-sound : (v : Record) → SoundRule v → isSound v ≡ true
-unfolding isSound cellsSound
+pub rule-sound : (v : Record) → SoundRule v → is_sound v ≡ true
+unfolding is_sound cells_sound
 rule-sound v r =
     both
     (both
     (both (both (rule-tray v.tray r.tray-is) (lt-ltb v.desk v.tray.counts.desks r.desk-is))
-    (mapAt-every (cellSound v.tray v.desk) v.row pastCell
+    (map_at-every (cell_sound v.tray v.desk) v.row past_cell
     (λ c h. rule-cell v.tray v.desk c (cell_at v.row c) (r.row_is.cell-is c h))))
     (rule-seat v.tray v.desk v.seat r.row_is.seat-is))
     (le-leb v.seat.slot.kind 2 r.asked)

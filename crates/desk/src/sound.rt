@@ -1,47 +1,47 @@
 // Whether a tray is sound, and small tests on a slot, a word, a stamp and a place.
 ghost use Rattle.std.specs.Prelude.{◌≡◌, ◌<◌};
-ghost use Rattle.desk.specs.Desk.{isNoWord, isBlank, keepsAt, keeps as keeps·def, waits as waits·def};
-ghost use Rattle.desk.specs.Sound.{wordFits, sentFits, placeSound, traySound};
+ghost use Rattle.desk.specs.Desk.{is_no_word, is_blank, keeps_at, keeps as keeps_def, waits as waits_def};
+ghost use Rattle.desk.specs.Sound.{word_fits, sent_fits, place_sound, tray_sound};
 
 use crate::{Counts, Place, Slot, Tray};
 use clock::Clock;
 
 pub fn waits(s: Slot) -> bool
-    ensures { result ≡ waits·def s }
+    ensures { result ≡ waits_def s }
 {
     s.kind != 0
 }
 
 fn is_no_word(word: u32) -> bool
-    ensures { result ≡ isNoWord word }
+    ensures { result ≡ is_no_word word }
 {
     word == 0
 }
 
 // Whether a stamp is one that no write has: all zeros.
 pub fn is_blank(stamp: Clock) -> bool
-    ensures { result ≡ isBlank stamp }
+    ensures { result ≡ is_blank stamp }
 {
     stamp.within(0)
 }
 
 // Word 0 wherever the stamp is all zeros.
 pub fn word_fits(word: u32, stamp: Clock) -> bool
-    ensures { result ≡ wordFits word stamp }
+    ensures { result ≡ word_fits word stamp }
 {
     !is_blank(stamp) | is_no_word(word)
 }
 
 // No write is asked under a clock that is all zeros.
 pub fn sent_fits(kind: u8, sent: Clock) -> bool
-    ensures { result ≡ sentFits kind sent }
+    ensures { result ≡ sent_fits kind sent }
 {
     !((kind == 2) & is_blank(sent))
 }
 
 // Whether the desk keeps cell c, whose place is p.
 fn keeps_at(n: Counts, p: Place, desk: u8, c: usize) -> bool
-    ensures { result ≡ keepsAt n p desk c }
+    ensures { result ≡ keeps_at n p desk c }
 {
     let cells = n.cells as usize;
     (c < cells) & (p.keeper == desk)
@@ -49,13 +49,13 @@ fn keeps_at(n: Counts, p: Place, desk: u8, c: usize) -> bool
 
 pub fn keeps(t: Tray, desk: u8, c: usize) -> bool
     requires { c < 32 }
-    ensures { result ≡ keeps·def t desk c }
+    ensures { result ≡ keeps_def t desk c }
 {
     keeps_at(t.counts, t.places[c], desk, c)
 }
 
 fn place_sound(n: Counts, c: usize, p: Place) -> bool
-    ensures { result ≡ placeSound n c p }
+    ensures { result ≡ place_sound n c p }
 {
     let cells = n.cells as usize;
     if c < cells {
@@ -65,7 +65,7 @@ fn place_sound(n: Counts, c: usize, p: Place) -> bool
 }
 
 pub fn tray_sound(t: Tray) -> bool
-    ensures { result ≡ traySound t }
+    ensures { result ≡ tray_sound t }
 {
     let n = t.counts;
     let mut ok = (1 <= n.desks) & (n.desks <= 8) & ((1 <= n.cells) & (n.cells <= 32));

@@ -1,10 +1,10 @@
 // What a desk's steps make of a seat and of a cell, by value. Record and table are thin functions over these.
 ghost use Rattle.std.specs.Prelude.{◌≡◌, ◌+◌, ◌*◌, ◌<◌, eqb};
 ghost use Rattle.clock.specs.Clock.{number, raised};
-ghost use Rattle.desk.specs.Desk.{heldCell, oneIf, answerKind};
-ghost use Rattle.desk.specs.Parts.{changeOf, askedFor, askingSeat, raisedSeat, readReply, writeReply, ownReply, tookSeat, answeredSeat, homeSeat, broughtCell, broughtReply, replyOf, losesIf};
-ghost use Rattle.desk.specs.Parts.{refusedAnswer, askedMessage, ownAnswer, servedAnswer, broughtAnswer};
-ghost use Rattle.desk.specs.Rules.{shownCode, refusedReply, placeLines};
+ghost use Rattle.desk.specs.Desk.{held_cell, one_if, answer_kind};
+ghost use Rattle.desk.specs.Parts.{change_of, asked_for, asking_seat, raised_seat, read_reply, write_reply, own_reply, took_seat, answered_seat, home_seat, brought_cell, brought_reply, reply_of, loses_if};
+ghost use Rattle.desk.specs.Parts.{refused_answer, asked_message, own_answer, served_answer, brought_answer};
+ghost use Rattle.desk.specs.Rules.{shown_code, refused_reply, place_lines};
 ghost use Rattle.theory_refusals.specs.Refusals.{first_of};
 
 use clock::Clock;
@@ -20,20 +20,20 @@ pub fn at(d: usize, c: usize) -> usize
 }
 
 fn shown_code(blank: bool) -> u32
-    ensures { result ≡ shownCode blank }
+    ensures { result ≡ shown_code blank }
 {
     if blank { 2 } else { 0 }
 }
 
 fn one_if(test: bool) -> u32
-    ensures { result ≡ oneIf test }
+    ensures { result ≡ one_if test }
 {
     if test { 1 } else { 0 }
 }
 
 // Whether a copy is lost to a learnt clock.
 pub fn is_lost(kept: bool, learnt: Clock, x: Cell) -> bool
-    ensures { result ≡ losesIf kept learnt x }
+    ensures { result ≡ loses_if kept learnt x }
 {
     if !x.held | kept {
         return false;
@@ -44,7 +44,7 @@ pub fn is_lost(kept: bool, learnt: Clock, x: Cell) -> bool
 
 // What an own event changes: 0 nothing, 1 the desk asks, 2 it stores, 3 it gives up.
 pub fn change_of(kept: bool, x: Cell, e: Event) -> u8
-    ensures { result ≡ changeOf kept x e }
+    ensures { result ≡ change_of kept x e }
 {
     let kind = e.kind;
     if kind == 1 {
@@ -58,7 +58,7 @@ pub fn change_of(kept: bool, x: Cell, e: Event) -> u8
 
 // The reply to it.
 pub fn own_reply(kept: bool, x: Cell, e: Event) -> Reply
-    ensures { result ≡ ownReply kept x e }
+    ensures { result ≡ own_reply kept x e }
 {
     let kind = e.kind;
     if kind == 1 {
@@ -75,7 +75,7 @@ pub fn own_reply(kept: bool, x: Cell, e: Event) -> Reply
 }
 
 fn read_reply(x: Cell) -> Reply
-    ensures { result ≡ readReply x }
+    ensures { result ≡ read_reply x }
 {
     let word = x.word;
     let stamp = x.stamp;
@@ -94,7 +94,7 @@ fn read_reply(x: Cell) -> Reply
 }
 
 fn write_reply(kept: bool, word: u32) -> Reply
-    ensures { result ≡ writeReply kept word }
+    ensures { result ≡ write_reply kept word }
 {
     if kept {
         return Reply {
@@ -122,7 +122,7 @@ fn next(clock: Clock, desk: usize) -> Clock
 // The request of a read or a write.
 fn asked_for(s: Seat, desk: usize, e: Event) -> Slot
     requires { (desk < 8) × (e.cell < 32) × (e.kind ≡ 2 → number s.clock desk ≡ 4294967295 → ⊥) × ((e.kind ≡ 1 → ⊥) → e.kind ≡ 2) }
-    ensures { result ≡ askedFor s desk e }
+    ensures { result ≡ asked_for s desk e }
 {
     let kind = e.kind;
     if kind == 1 {
@@ -145,7 +145,7 @@ fn asked_for(s: Seat, desk: usize, e: Event) -> Slot
 // The seat of a desk that asks.
 pub fn asking(s: Seat, desk: usize, e: Event) -> Seat
     requires { (desk < 8) × (e.cell < 32) × (e.kind ≡ 2 → number s.clock desk ≡ 4294967295 → ⊥) × ((e.kind ≡ 1 → ⊥) → e.kind ≡ 2) }
-    ensures { result ≡ askingSeat s desk e }
+    ensures { result ≡ asking_seat s desk e }
 {
     let slot = asked_for(s, desk, e);
     let mut after = s;
@@ -157,7 +157,7 @@ pub fn asking(s: Seat, desk: usize, e: Event) -> Seat
 // The seat of a keeper that writes: its own number is one higher.
 pub fn raising(s: Seat, desk: usize) -> Seat
     requires { (desk < 8) × (number s.clock desk ≡ 4294967295 → ⊥) }
-    ensures { result ≡ raisedSeat s desk }
+    ensures { result ≡ raised_seat s desk }
 {
     let clock = next(s.clock, desk);
     let mut after = s;
@@ -167,7 +167,7 @@ pub fn raising(s: Seat, desk: usize) -> Seat
 
 // A word stored under the seat's clock.
 pub fn storing(s: Seat, word: u32) -> Cell
-    ensures { result ≡ heldCell word s.clock }
+    ensures { result ≡ held_cell word s.clock }
 {
     let stamp = s.clock;
     Cell {
@@ -179,7 +179,7 @@ pub fn storing(s: Seat, word: u32) -> Cell
 
 // The keeper's seat once it has taken a write: it learns the sent clock, and *served* goes on if it waits.
 pub fn took(s: Seat, sent: Clock) -> Seat
-    ensures { result ≡ tookSeat s sent }
+    ensures { result ≡ took_seat s sent }
 {
     let clock = s.clock.merge(sent);
     let served = s.served | waits(s.slot);
@@ -192,7 +192,7 @@ pub fn took(s: Seat, sent: Clock) -> Seat
 // The kind of the answer to a request.
 pub fn answer_kind(asked: u8) -> u8
     requires { asked < 3 }
-    ensures { result ≡ answerKind asked }
+    ensures { result ≡ answer_kind asked }
 {
     asked + 2
 }
@@ -200,7 +200,7 @@ pub fn answer_kind(asked: u8) -> u8
 // The asker's seat, with what the keeper's cell answers.
 pub fn answering(s: Seat, x: Cell) -> Seat
     requires { s.slot.kind < 3 }
-    ensures { result ≡ answeredSeat s x }
+    ensures { result ≡ answered_seat s x }
 {
     let clock = x.stamp;
     let asked = s.slot;
@@ -217,7 +217,7 @@ pub fn answering(s: Seat, x: Cell) -> Seat
 
 // The cell that an answer names, once it is brought: held unless the desk served a write meanwhile.
 pub fn brought(served: bool, word: u32, stamp: Clock) -> Cell
-    ensures { result ≡ broughtCell served word stamp }
+    ensures { result ≡ brought_cell served word stamp }
 {
     if served {
         return Cell::NONE;
@@ -231,7 +231,7 @@ pub fn brought(served: bool, word: u32, stamp: Clock) -> Cell
 
 // The seat of a desk that has its answer.
 pub fn home(s: Seat, stamp: Clock) -> Seat
-    ensures { result ≡ homeSeat s stamp }
+    ensures { result ≡ home_seat s stamp }
 {
     let clock = s.clock.merge(stamp);
     let empty = Slot::NONE;
@@ -243,7 +243,7 @@ pub fn home(s: Seat, stamp: Clock) -> Seat
 }
 
 pub fn bring_reply(kind: u8, word: u32, stamp: Clock, count: u32) -> Reply
-    ensures { result ≡ broughtReply kind word stamp count }
+    ensures { result ≡ brought_reply kind word stamp count }
 {
     let blank = (kind == 3) & is_blank(stamp);
     Reply {
@@ -329,14 +329,14 @@ pub fn cells_of(n: Counts) -> usize
 
 // What is brought home to a seat: the cell that its slot names, and the reply.
 pub fn brought_to(s: Seat) -> Cell
-    ensures { result ≡ broughtCell s.served s.slot.word s.slot.clock }
+    ensures { result ≡ brought_cell s.served s.slot.word s.slot.clock }
 {
     let slot = s.slot;
     brought(s.served, slot.word, slot.clock)
 }
 
 pub fn brings(s: Seat, count: u32) -> Reply
-    ensures { result ≡ broughtReply s.slot.kind s.slot.word s.slot.clock count }
+    ensures { result ≡ brought_reply s.slot.kind s.slot.word s.slot.clock count }
 {
     let slot = s.slot;
     bring_reply(slot.kind, slot.word, slot.clock, count)
@@ -344,7 +344,7 @@ pub fn brings(s: Seat, count: u32) -> Reply
 
 // ---- replies
 pub fn refused(code: u32) -> Reply
-    ensures { result ≡ refusedReply code }
+    ensures { result ≡ refused_reply code }
 {
     Reply {
         code,
@@ -354,7 +354,7 @@ pub fn refused(code: u32) -> Reply
 }
 
 pub fn dropped(count: u32) -> Reply
-    ensures { result ≡ replyOf 0 0 count }
+    ensures { result ≡ reply_of 0 0 count }
 {
     Reply {
         code: 0,
@@ -365,7 +365,7 @@ pub fn dropped(count: u32) -> Reply
 
 // The table's 8 and 10; 0 where neither applies.
 pub fn unplaced(n: Counts, e: Event) -> u32
-    ensures { result ≡ first_of (placeLines n e) }
+    ensures { result ≡ first_of (place_lines n e) }
 {
     let kind = e.kind;
     let desks = n.desks as u32;
@@ -411,14 +411,14 @@ pub fn sent_word(m: Message) -> u32
 
 // The cell that an answer names, once it is brought home to a seat.
 pub fn brought_by(s: Seat, m: Message) -> Cell
-    ensures { result ≡ broughtCell s.served m.word m.clock }
+    ensures { result ≡ brought_cell s.served m.word m.clock }
 {
     brought(s.served, m.word, m.clock)
 }
 
 // ---- answers
 pub fn refused_answer(code: u32) -> Answer
-    ensures { result ≡ refusedAnswer code }
+    ensures { result ≡ refused_answer code }
 {
     Answer {
         reply: refused(code),
@@ -428,7 +428,7 @@ pub fn refused_answer(code: u32) -> Answer
 
 // A desk that asks (change 1) sends what stands in its slot.
 fn asked_message(change: u8, n: Counts, desk: u8, s: Slot) -> Message
-    ensures { result ≡ askedMessage change n desk s }
+    ensures { result ≡ asked_message change n desk s }
 {
     if change != 1 {
         return Message::NONE;
@@ -446,7 +446,7 @@ fn asked_message(change: u8, n: Counts, desk: u8, s: Slot) -> Message
 
 // To an own event; s is the seat afterwards.
 pub fn own_answer(kept: bool, x: Cell, e: Event, n: Counts, desk: u8, s: Seat) -> Answer
-    ensures { result ≡ ownAnswer kept x e n desk s.slot }
+    ensures { result ≡ own_answer kept x e n desk s.slot }
 {
     let change = change_of(kept, x, e);
     let slot = s.slot;
@@ -459,7 +459,7 @@ pub fn own_answer(kept: bool, x: Cell, e: Event, n: Counts, desk: u8, s: Seat) -
 // To a request, with what the keeper's cell now has.
 pub fn served_answer(count: u32, m: Message, x: Cell) -> Answer
     requires { m.kind < 3 }
-    ensures { result ≡ servedAnswer count m x }
+    ensures { result ≡ served_answer count m x }
 {
     let clock = x.stamp;
     let message = Message {
@@ -477,7 +477,7 @@ pub fn served_answer(count: u32, m: Message, x: Cell) -> Answer
 }
 
 pub fn brought_answer(count: u32, m: Message) -> Answer
-    ensures { result ≡ broughtAnswer count m }
+    ensures { result ≡ brought_answer count m }
 {
     Answer {
         reply: bring_reply(m.kind, m.word, m.clock, count),

@@ -21,12 +21,12 @@ use types.Run.{look, stop, hop, from, addr}
 use denote.Triple.Statement.{Triple}
 use Rattle.clock.specs.contracts.Clock as K
 use Rattle.clock.proofs.Clock.TheLaws as K'
-use Rattle.clock.specs.Clock.{zeroClock}
+use Rattle.clock.specs.Clock.{zero_clock}
 use Rattle.desk.specs.contracts.Slot as L
 use Rattle.desk.proofs.Slot.TheLaws as L'
 use Rattle.desk.specs.declared.Cell.{Cell}
-use Rattle.desk.specs.Desk.{no_word, no_slot, noSeat}
-use Rattle.walks.proofs.Access.{clearer-at, lentTy, place_in, writes_at}
+use Rattle.desk.specs.Desk.{no_word, no_slot, no_seat}
+use Rattle.walks.proofs.Access.{clearer-at, lent_ty, place_in, writes_at}
 use Rattle.walks.proofs.Lent.{LentFn, OpenOk, reading, LentMet, W, 𝓣}
 use Rattle.walks.proofs.Parts.{Row, with_at, with-is, place-fits, size_fits, struct_is, same-are}
 use Rattle.walks.proofs.Plain.{Plain, Form, form, ty, IsOf, has-type, number, struct, array}
@@ -45,18 +45,18 @@ numbers = array (number w32) 8
 pub zeros-are : IsOf numbers (replicate 8 0)
 zeros-are = same-are (number w32) 8 0 (refl, lit< tt)
 
-pub no-clock-is : IsOf (struct clock-form) zeroClock
-no-clock-is = struct_is clock-form zeroClock (zeros-are, tt)
+pub no-clock-is : IsOf (struct clock-form) zero_clock
+no-clock-is = struct_is clock-form zero_clock (zeros-are, tt)
 
 pub no-slot-is : IsOf (struct slot-form) no_slot
 no-slot-is = struct_is slot-form no_slot ((refl, lit< tt), ((refl, lit< tt), ((refl, lit< tt), (no-clock-is, tt))))
 
-pub no-seat-is : IsOf seat noSeat
-no-seat-is = struct_is seat-form noSeat (no-clock-is, (no-slot-is, (refl, tt)))
+pub no-seat-is : IsOf seat no_seat
+no-seat-is = struct_is seat-form no_seat (no-clock-is, (no-slot-is, (refl, tt)))
 
 -- a blank cell, held or not
 abbrev pub blank : Bool → Cell
-blank held = record { held = held; word = no_word; stamp = zeroClock }
+blank held = record { held = held; word = no_word; stamp = zero_clock }
 
 pub blank-is : (held : Bool) → IsOf cell (blank held)
 blank-is held = struct_is cell-form (blank held) (refl, ((refl, lit< tt), (no-clock-is, tt)))
@@ -72,12 +72,12 @@ module _ {R : Plain} {n : ℕ} (r : Row R cell n) where
   abbrev storer : Bool → LentFn R
   storer held = clearer-at r (blank held)
 
-  abbrev storeFn : Bool → Fn
-  storeFn held = record {
+  abbrev store_fn : Bool → Fn
+  store_fn held = record {
     lifetimes = 1;
     outlives = [];
     params = 2;
-    locals = value ty_unit ∷ value (lentTy R) ∷ value (ty_int w64) ∷ value (ty numbers) ∷ value (ty (struct clock-form)) ∷ value (ty cell) ∷
+    locals = value ty_unit ∷ value (lent_ty R) ∷ value (ty_int w64) ∷ value (ty numbers) ∷ value (ty (struct clock-form)) ∷ value (ty cell) ∷
         value (ty_int w64) ∷ value ty_ptr ∷ value ty_ptr ∷ [];
     body =
         seq (assign (place 3 []) (repeat (int w32 0) 8))
@@ -93,13 +93,13 @@ module _ {R : Plain} {n : ℕ} (r : Row R cell n) where
 
   -- the two clauses have the same facts: the code is known only where the flag is
   store_ok : (held : Bool) {M : Type 1} {𝓤 : Ura M} (𝓛 : Logic 𝓤) (Ts : Tables 𝓤 𝓛.H)
-      → OpenOk 𝓛 R (storer held) Ts (storeFn held)
+      → OpenOk 𝓛 R (storer held) Ts (store_fn held)
       (ty numbers ∷ ty (struct clock-form) ∷ ty cell ∷ ty_int w64 ∷ ty_ptr ∷ ty_ptr ∷ [])
   store_ok true 𝓛 Ts κ q b o γ t a is-a is h =
       let i = a.0 in
       let x = blank true in
       let fits = place-fits r t is i h in
-      tt ⨟ has-type 𝓛 numbers (replicate 8 0) zeros-are ⨟ has-type 𝓛 (struct clock-form) zeroClock no-clock-is
+      tt ⨟ has-type 𝓛 numbers (replicate 8 0) zeros-are ⨟ has-type 𝓛 (struct clock-form) zero_clock no-clock-is
       ⨟ tt ⨟ has-type 𝓛 cell x (blank-is true) ⨟ size_fits r t is i h ⨟ fits ⨟ (tt, fits)
       ⨟ _ ⨟ (λ bs. addr ! (from ! (hop ! (look ! 2 refl) (r.part.goes b o (stop !))))) ⨟ (tt, tt) ⨟ tt ⨟ (tt, tt)
       ⨟ with_at r t i x ⨟ (λ bs. (_, from ! (hop ! (look ! 9 refl) (stop !)), writes_at 𝓛 R b o r t is i h refl x (blank-is true)))
@@ -108,14 +108,14 @@ module _ {R : Plain} {n : ℕ} (r : Row R cell n) where
       let i = a.0 in
       let x = blank false in
       let fits = place-fits r t is i h in
-      tt ⨟ has-type 𝓛 numbers (replicate 8 0) zeros-are ⨟ has-type 𝓛 (struct clock-form) zeroClock no-clock-is
+      tt ⨟ has-type 𝓛 numbers (replicate 8 0) zeros-are ⨟ has-type 𝓛 (struct clock-form) zero_clock no-clock-is
       ⨟ tt ⨟ has-type 𝓛 cell x (blank-is false) ⨟ size_fits r t is i h ⨟ fits ⨟ (tt, fits)
       ⨟ _ ⨟ (λ bs. addr ! (from ! (hop ! (look ! 2 refl) (r.part.goes b o (stop !))))) ⨟ (tt, tt) ⨟ tt ⨟ (tt, tt)
       ⨟ with_at r t i x ⨟ (λ bs. (_, from ! (hop ! (look ! 9 refl) (stop !)), writes_at 𝓛 R b o r t is i h refl x (blank-is false)))
       ⨟ (tt, tt) ⨟ _ ⨟ refl ⨟ with-is r t is i x (blank-is false) ⨟ (refl, refl, refl, tt)
 
   pub stores : (held : Bool) {M : Type 1} {𝓤 : Ura M} (𝓛 : Logic 𝓤) (𝓜 : Model 𝓤 𝓛.H) (𝓡 : Running 𝓤 𝓛.H 𝓜) (ε : Routines)
-      (name : Name) → Closed 𝓤 𝓛.H (tables 𝓤 𝓛.H 𝓜 𝓡 ε).C (tables 𝓤 𝓛.H 𝓜 𝓡 ε).Λ name (storeFn held)
+      (name : Name) → Closed 𝓤 𝓛.H (tables 𝓤 𝓛.H 𝓜 𝓡 ε).C (tables 𝓤 𝓛.H 𝓜 𝓡 ε).Λ name (store_fn held)
       → Triple 𝓤 (𝓡.run (ε name)) (LentMet R (storer held) 𝓛)
   stores held 𝓛 𝓜 𝓡 ε name is =
-      reading 𝓛 𝓜 𝓡 ε R (storer held) name (storeFn held) is refl (store_ok held (W 𝓛 𝓜 𝓡 ε) (𝓣 𝓛 𝓜 𝓡 ε))
+      reading 𝓛 𝓜 𝓡 ε R (storer held) name (store_fn held) is refl (store_ok held (W 𝓛 𝓜 𝓡 ε) (𝓣 𝓛 𝓜 𝓡 ε))

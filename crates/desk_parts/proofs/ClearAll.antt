@@ -21,8 +21,8 @@ use types.Logic.{Logic}
 use contract.Running.{Running, tables}
 use denote.Memory.{pointee}
 use denote.Triple.Statement.{Triple}
-use Rattle.theory_lists.specs.Replaced.{up_to, upTo-step, upTo-same}
-use Rattle.walks.proofs.Access.{clearer-at, lentTy}
+use Rattle.theory_lists.specs.Replaced.{up_to, up_to-step, up_to-same}
+use Rattle.walks.proofs.Access.{clearer-at, lent_ty}
 use Rattle.walks.proofs.Callees.{lent}
 use Rattle.walks.proofs.Lent.{LentFn, always, changes, calling, LentMet}
 use Rattle.walks.proofs.Parts.{Row, long}
@@ -39,12 +39,12 @@ abbrev left : (n : ℕ) → Count n → ℕ
 left n x = n - x.0
 
 module _ {R E : Plain} {n : ℕ} (r : Row R E n) (x : Of E) where
-  abbrev loopFn : Name → Fn
-  loopFn g = record {
+  abbrev loop_fn : Name → Fn
+  loop_fn g = record {
     lifetimes = 1;
     outlives = [];
     params = 1;
-    locals = value ty_unit ∷ value (lentTy R) ∷ value (ty_int w64) ∷ value ty_bool ∷ value ty_unit
+    locals = value ty_unit ∷ value (lent_ty R) ∷ value (ty_int w64) ∷ value ty_bool ∷ value ty_unit
         ∷ value (ty_ref erased mut (pointee R.F.row.written)) ∷ [];
     body =
         seq (assign (place 2 []) (rv_opd (int w64 0)))
@@ -80,14 +80,14 @@ module _ {R E : Plain} {n : ℕ} (r : Row R E n) (x : Of E) where
     to_one : (t : Of R) (c : ℕ) → put (to t c) (set (get (to t c)) c x) ≡ to t (c + 1)
     to_one t c =
         let l = up_to (λ _. x) c (get t) in
-        again t l _ ∙ ap (λ (m : List (Of E)). put t (set m c x)) (got t l) ∙ ap (put t) (upTo-step (λ _. x) c (get t))
+        again t l _ ∙ ap (λ (m : List (Of E)). put t (set m c x)) (got t l) ∙ ap (put t) (up_to-step (λ _. x) c (get t))
 
     pub clears-all : {M : Type 1} {𝓤 : Ura M} (𝓛 : Logic 𝓤) (𝓜 : Model 𝓤 𝓛.H) (𝓡 : Running 𝓤 𝓛.H 𝓜) (ε : Routines) (f g : Name)
-        → Closed 𝓤 𝓛.H (tables 𝓤 𝓛.H 𝓜 𝓡 ε).C (tables 𝓤 𝓛.H 𝓜 𝓡 ε).Λ f (loopFn g)
+        → Closed 𝓤 𝓛.H (tables 𝓤 𝓛.H 𝓜 𝓡 ε).C (tables 𝓤 𝓛.H 𝓜 𝓡 ε).Λ f (loop_fn g)
         → (ρ : Routine) → ε g ≡ ρ → Triple 𝓤 (𝓡.run ρ) (LentMet R (clearer-at r x) 𝓛) → Triple 𝓤 (𝓡.run (ε f)) (LentMet R cleared 𝓛)
     clears-all 𝓛 𝓜 𝓡 ε f g is ρ e met =
         let in-machine = ltb→lt n (2 ^ 64) small in
-        calling 𝓛 𝓜 𝓡 ε R cleared f (loopFn g) is refl
+        calling 𝓛 𝓜 𝓡 ε R cleared f (loop_fn g) is refl
         (λ κ q b o γ t a is-a is-t need.
         tt ⨟ (tt, record { fits = lit< tt })
         ⨟ Count n ⨟ (λ x y. left n x < left n y) ⨟ InvImage.wf (left n) lt-wf_rel.wf
@@ -101,4 +101,4 @@ module _ {R E : Plain} {n : ℕ} (r : Row R E n) (x : Of E) where
         ⨟ ((c + 1, omega (arith, below)), omega (arith, below), to_one t c, (refl, (refl, tt)), tt)))
         ⨟ (λ no. let end : y.0 ≡ n = omega (arith, nltb→le y.0 n no, y.1) in
         ((tt, tt) ⨟ _ ⨟ refl
-        ⨟ (refl, refl, ap (to t) end ∙ ap (put t) (upTo-same x n (get t) (long E n (get t) (r.part.get-is t is-t))), tt)))))))
+        ⨟ (refl, refl, ap (to t) end ∙ ap (put t) (up_to-same x n (get t) (long E n (get t) (r.part.get-is t is-t))), tt)))))))

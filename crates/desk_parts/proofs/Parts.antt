@@ -14,8 +14,8 @@ use Rattle.desk.specs.contracts.Seat as S
 use Rattle.desk.proofs.Seat.TheLaws as S'
 use Rattle.desk.specs.contracts.Tray as T
 use Rattle.desk.proofs.Tray.TheLaws as T'
-use Rattle.desk.specs.Desk.{noCell, noPlace, noSeat, pastCell}
-use Rattle.desk.specs.Start.{blankCell}
+use Rattle.desk.specs.Desk.{no_cell, no_place, no_seat, past_cell}
+use Rattle.desk.specs.Start.{blank_cell}
 use Rattle.walks.proofs.Access.{getter, setter, clearer, getter-at, setter-at, clearer-at}
 use Rattle.walks.proofs.Lent.{LentFn}
 use Rattle.walks.proofs.Parts.{Part, Row, of, field_of}
@@ -78,10 +78,10 @@ abbrev pub seat-in : Part desk-record seat
 seat-in = field_of record-form 2 refl refl
 
 abbrev pub places-in : Row desk-record spot 32
-places-in = record { part = of tray-in places-of-tray; past = noPlace; fits = tt }
+places-in = record { part = of tray-in places-of-tray; past = no_place; fits = tt }
 
 abbrev pub row_in : Row desk-record cell 32
-row_in = record { part = field_of record-form 3 refl refl; past = pastCell; fits = tt }
+row_in = record { part = field_of record-form 3 refl refl; past = past_cell; fits = tt }
 
 -- ---- the functions
 abbrev pub own-tray : LentFn desk-record
@@ -109,7 +109,7 @@ abbrev pub put-own-seat : LentFn desk-record
 put-own-seat = setter seat-in
 
 abbrev pub clear-own-seat : LentFn desk-record
-clear-own-seat = clearer seat-in noSeat
+clear-own-seat = clearer seat-in no_seat
 
 abbrev pub own-cell : LentFn desk-record
 own-cell = getter-at row_in
@@ -118,7 +118,7 @@ abbrev pub put-own : LentFn desk-record
 put-own = setter-at row_in
 
 abbrev pub clear-own : LentFn desk-record
-clear-own = clearer-at row_in noCell
+clear-own = clearer-at row_in no_cell
 
 abbrev pub keep-own : LentFn desk-record
-keep-own = clearer-at row_in blankCell
+keep-own = clearer-at row_in blank_cell

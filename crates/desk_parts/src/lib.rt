@@ -1,9 +1,9 @@
 // A desk's record through a reference: its parts, each read and stored where it lies. A name begins with *own*: it is the desk's own.
 ghost use Rattle.std.specs.Prelude.{◌≡◌, ◌<◌};
-ghost use Rattle.desk.specs.Desk.{noCell, noSeat, cell_at, placeAt};
-ghost use Rattle.desk.specs.Rules.{withSeat, holds};
-ghost use Rattle.desk.specs.Start.{blankCell};
-ghost use Rattle.desk.specs.StartInPlace.{withTray, withDesk};
+ghost use Rattle.desk.specs.Desk.{no_cell, no_seat, cell_at, place_at};
+ghost use Rattle.desk.specs.Rules.{with_seat, holds};
+ghost use Rattle.desk.specs.Start.{blank_cell};
+ghost use Rattle.desk.specs.StartInPlace.{with_tray, with_desk};
 
 use desk::{Cell, Counts, Place, Record, Seat, Tray};
 
@@ -14,7 +14,7 @@ pub fn own_tray(v: &mut Record) -> Tray
 }
 
 pub fn put_own_tray(v: &mut Record, t: Tray)
-    ensures { v.new ≡ withTray v.old t }
+    ensures { v.new ≡ with_tray v.old t }
 {
     v.tray = t;
 }
@@ -28,7 +28,7 @@ pub fn own_counts(v: &mut Record) -> Counts
 // The place of cell c.
 pub fn own_place(v: &mut Record, c: usize) -> Place
     requires { c < 32 }
-    ensures { (result ≡ placeAt v.old.tray c) × (v.new ≡ v.old) }
+    ensures { (result ≡ place_at v.old.tray c) × (v.new ≡ v.old) }
 {
     v.tray.places[c]
 }
@@ -41,7 +41,7 @@ pub fn own_desk(v: &mut Record) -> u8
 }
 
 pub fn put_own_desk(v: &mut Record, desk: u8)
-    ensures { v.new ≡ withDesk v.old desk }
+    ensures { v.new ≡ with_desk v.old desk }
 {
     v.desk = desk;
 }
@@ -53,14 +53,14 @@ pub fn own_seat(v: &mut Record) -> Seat
 }
 
 pub fn put_own_seat(v: &mut Record, s: Seat)
-    ensures { v.new ≡ withSeat v.old s }
+    ensures { v.new ≡ with_seat v.old s }
 {
     v.seat = s;
 }
 
 // The constant is stored here and not passed: a seat and a cell have bytes between their fields, and a copy of one built elsewhere waits for them.
 pub fn clear_own_seat(v: &mut Record)
-    ensures { v.new ≡ withSeat v.old noSeat }
+    ensures { v.new ≡ with_seat v.old no_seat }
 {
     v.seat = Seat::NONE;
 }
@@ -82,7 +82,7 @@ pub fn put_own(v: &mut Record, c: usize, x: Cell)
 // The constant as in `clear_own_seat`.
 pub fn clear_own(v: &mut Record, c: usize)
     requires { c < 32 }
-    ensures { v.new ≡ holds v.old c noCell }
+    ensures { v.new ≡ holds v.old c no_cell }
 {
     v.row[c] = Cell::NONE;
 }
@@ -90,7 +90,7 @@ pub fn clear_own(v: &mut Record, c: usize)
 // The same, for a cell that its keeper has at first.
 pub fn keep_own(v: &mut Record, c: usize)
     requires { c < 32 }
-    ensures { v.new ≡ holds v.old c blankCell }
+    ensures { v.new ≡ holds v.old c blank_cell }
 {
     v.row[c] = Cell::BLANK;
 }

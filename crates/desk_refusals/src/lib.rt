@@ -2,8 +2,8 @@
 ghost use Rattle.std.specs.Prelude.{◌&&◌, ◌≡◌, ◌<◌, ◌≤◌, eqb};
 ghost use Rattle.clock.specs.Clock.{number};
 ghost use Rattle.theory_refusals.specs.Refusals.{first_of};
-ghost use Rattle.desk.specs.Desk.{keeps as keeps·def, isAsked, isAnswered, isOwn};
-ghost use Rattle.desk.specs.Rules.{seatLines};
+ghost use Rattle.desk.specs.Desk.{keeps as keeps_def, is_asked, is_answered, is_own};
+ghost use Rattle.desk.specs.Rules.{seat_lines};
 
 use clock::Clock;
 use desk::sound::{keeps, waits};
@@ -12,7 +12,7 @@ use desk::{Event, Seat, Slot, Tray};
 // The first refusal from 11 on that applies, in the order of 01's table; 0 where none does. For the desk's events and the table's.
 pub fn seat_refusal(t: Tray, desk: u8, s: Seat, e: Event) -> u32
     requires { (desk < 8) × (t.counts.cells ≤ 32) }
-    ensures { result ≡ first_of (seatLines t desk s e) }
+    ensures { result ≡ first_of (seat_lines t desk s e) }
 {
     let kind = e.kind;
     let slot = s.slot;
@@ -37,20 +37,20 @@ pub fn seat_refusal(t: Tray, desk: u8, s: Seat, e: Event) -> u32
 }
 
 pub fn is_own(e: Event) -> bool
-    ensures { result ≡ isOwn e }
+    ensures { result ≡ is_own e }
 {
     let kind = e.kind;
     (kind == 1) | (kind == 2) | (kind == 5)
 }
 
 fn is_asked(s: Slot) -> bool
-    ensures { result ≡ isAsked s }
+    ensures { result ≡ is_asked s }
 {
     (s.kind == 1) | (s.kind == 2)
 }
 
 fn is_answered(s: Slot) -> bool
-    ensures { result ≡ isAnswered s }
+    ensures { result ≡ is_answered s }
 {
     (s.kind == 3) | (s.kind == 4)
 }
@@ -58,7 +58,7 @@ fn is_answered(s: Slot) -> bool
 // Kind 5 for a cell that its desk keeps.
 fn drops_kept(t: Tray, desk: u8, e: Event) -> bool
     requires { e.kind ≡ 5 → e.cell < 32 }
-    ensures { result ≡ (eqb e.kind 5 && keeps·def t desk e.cell) }
+    ensures { result ≡ (eqb e.kind 5 && keeps_def t desk e.cell) }
 {
     let kind = e.kind;
     if kind != 5 {

@@ -1,9 +1,9 @@
 // Starting: a tray as it is set up, and a desk's fresh record on it. The table sets itself up from the same parts.
 ghost use Rattle.std.specs.Prelude.{◌≡◌, ◌≤◌, replicate};
-ghost use Rattle.desk.specs.Desk.{noCell};
+ghost use Rattle.desk.specs.Desk.{no_cell};
 ghost use Rattle.desk.specs.Rules.{with_row};
-ghost use Rattle.desk.specs.Start.{freshTray, noTray, noRecord, keepersRight, setUpRefusal, startRefusal, startRule};
-ghost use Rattle.desk.specs.StartInPlace.{keptIn};
+ghost use Rattle.desk.specs.Start.{fresh_tray, no_tray, no_record, keepers_right, set_up_refusal, start_refusal, start_rule};
+ghost use Rattle.desk.specs.StartInPlace.{kept_in};
 
 use desk::{Counts, Place, Plan, Record, Tray};
 use desk_acts::{cells_of, desk_index};
@@ -15,7 +15,7 @@ use desk_sums::keeps;
 
 // A desk's record for any plan and any number, in place of the one that is lent.
 pub fn start(v: &mut Record, plan: Plan, desk: u32) -> u32
-    ensures { (result ≡ (startRule plan desk).code) × (v.new ≡ (startRule plan desk).«record») }
+    ensures { (result ≡ (start_rule plan desk).code) × (v.new ≡ (start_rule plan desk).«record») }
 {
     let code = start_refusal(plan, desk);
     clear(v);
@@ -30,7 +30,7 @@ pub fn start(v: &mut Record, plan: Plan, desk: u32) -> u32
 
 // All zero: what a refusal leaves, and what a fresh record is made from.
 fn clear(v: &mut Record)
-    ensures { v.new ≡ noRecord }
+    ensures { v.new ≡ no_record }
 {
     put_own_tray(v, no_tray());
     put_own_desk(v, 0);
@@ -39,7 +39,7 @@ fn clear(v: &mut Record)
 }
 
 fn clear_row(v: &mut Record)
-    ensures { v.new ≡ with_row v.old (replicate 32 noCell) }
+    ensures { v.new ≡ with_row v.old (replicate 32 no_cell) }
 {
     let mut c: usize = 0;
     while c < 32 {
@@ -51,7 +51,7 @@ fn clear_row(v: &mut Record)
 // The desk holds the cells that it keeps, blank.
 fn keep(v: &mut Record)
     requires { v.old.tray.counts.cells ≤ 32 }
-    ensures { v.new ≡ keptIn v.old }
+    ensures { v.new ≡ kept_in v.old }
 {
     let d = desk_index(own_desk(v));
     let n = cells_of(own_counts(v));
@@ -65,14 +65,14 @@ fn keep(v: &mut Record)
 }
 
 pub fn no_tray() -> Tray
-    ensures { result ≡ noTray }
+    ensures { result ≡ no_tray }
 {
     Tray::NONE
 }
 
 // What setting up refuses, then a number that is no desk; 0 where nothing is wrong.
 fn start_refusal(plan: Plan, desk: u32) -> u32
-    ensures { result ≡ startRefusal plan desk }
+    ensures { result ≡ start_refusal plan desk }
 {
     let set_up = refusal(plan);
     if set_up != 0 {
@@ -87,7 +87,7 @@ fn start_refusal(plan: Plan, desk: u32) -> u32
 // Whether every keeper below the cell count is a desk.
 fn keepers_right(plan: Plan) -> bool
     requires { plan.cells ≤ 32 }
-    ensures { result ≡ keepersRight plan }
+    ensures { result ≡ keepers_right plan }
 {
     let cells = plan.cells as usize;
     let mut right = true;
@@ -99,7 +99,7 @@ fn keepers_right(plan: Plan) -> bool
 
 // What setting up refuses; 0 where nothing is wrong.
 pub fn refusal(plan: Plan) -> u32
-    ensures { result ≡ setUpRefusal plan }
+    ensures { result ≡ set_up_refusal plan }
 {
     if !((1 <= plan.desks) & (plan.desks <= 8)) {
         return 20;
@@ -114,8 +114,8 @@ pub fn refusal(plan: Plan) -> u32
 }
 
 pub fn tray(plan: Plan) -> Tray
-    requires { setUpRefusal plan ≡ 0 }
-    ensures { result ≡ freshTray plan }
+    requires { set_up_refusal plan ≡ 0 }
+    ensures { result ≡ fresh_tray plan }
 {
     let cells = plan.cells as usize;
     let mut places = [Place::NONE; 32];

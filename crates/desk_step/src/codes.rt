@@ -1,7 +1,7 @@
 // What refuses a desk's steps: the first line that applies, in the order of 01's table, and 0 where none does. Each is told whether the record is
 // sound; only then is anything else looked at.
 ghost use Rattle.std.specs.Prelude.{true, ◌≡◌, ◌<◌, ◌≤◌};
-ghost use Rattle.desk.specs.Rules.{eventLines, serveLines, bringLines, inTray, requestFits, answerFits};
+ghost use Rattle.desk.specs.Rules.{event_lines, serve_lines, bring_lines, in_tray, request_fits, answer_fits};
 ghost use Rattle.theory_refusals.specs.Refusals.{first_of};
 
 use desk::sound::{keeps, sent_fits, waits, word_fits};
@@ -11,7 +11,7 @@ use desk_refusals::{is_own, seat_refusal};
 
 pub fn event_code(sound: bool, t: Tray, desk: u8, s: Seat, e: Event) -> u32
     requires { sound ≡ true → (desk < 8) × (t.counts.cells ≤ 32) }
-    ensures { result ≡ first_of (eventLines sound t desk s e) }
+    ensures { result ≡ first_of (event_lines sound t desk s e) }
 {
     if !sound {
         return 9;
@@ -24,7 +24,7 @@ pub fn event_code(sound: bool, t: Tray, desk: u8, s: Seat, e: Event) -> u32
 
 pub fn serve_code(sound: bool, t: Tray, desk: u8, m: Message) -> u32
     requires { sound ≡ true → t.counts.cells ≤ 32 }
-    ensures { result ≡ first_of (serveLines sound t desk m) }
+    ensures { result ≡ first_of (serve_lines sound t desk m) }
 {
     if !sound {
         return 9;
@@ -37,7 +37,7 @@ pub fn serve_code(sound: bool, t: Tray, desk: u8, m: Message) -> u32
 
 pub fn bring_code(sound: bool, t: Tray, desk: u8, s: Seat, m: Message) -> u32
     requires { sound ≡ true → s.slot.kind < 3 }
-    ensures { result ≡ first_of (bringLines sound t desk s m) }
+    ensures { result ≡ first_of (bring_lines sound t desk s m) }
 {
     if !sound {
         return 9;
@@ -53,7 +53,7 @@ pub fn bring_code(sound: bool, t: Tray, desk: u8, s: Seat, m: Message) -> u32
 
 // Whether a message has the tray's desk count, and no clock number past it.
 fn in_tray(t: Tray, m: Message) -> bool
-    ensures { result ≡ inTray t m }
+    ensures { result ≡ in_tray t m }
 {
     let desks = t.counts.desks;
     let clock = m.clock;
@@ -62,7 +62,7 @@ fn in_tray(t: Tray, m: Message) -> bool
 
 fn request_fits(t: Tray, desk: u8, m: Message) -> bool
     requires { t.counts.cells ≤ 32 }
-    ensures { result ≡ requestFits t desk m }
+    ensures { result ≡ request_fits t desk m }
 {
     let n = t.counts;
     if n.cells <= m.cell {
@@ -78,7 +78,7 @@ fn request_fits(t: Tray, desk: u8, m: Message) -> bool
 
 fn answer_fits(t: Tray, desk: u8, s: Slot, m: Message) -> bool
     requires { s.kind < 3 }
-    ensures { result ≡ answerFits t desk s m }
+    ensures { result ≡ answer_fits t desk s m }
 {
     let kind = answer_kind(s.kind);
     in_tray(t, m)

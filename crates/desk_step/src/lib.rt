@@ -1,12 +1,12 @@
 // A desk's three steps where its record lies: a step names the cells that it touches, and nothing large is copied.
 ghost use Rattle.std.specs.Prelude.{◌≡◌, ◌<◌, ◌≤◌};
-ghost use Rattle.desk.specs.Desk.{cell_at, placeAt};
-ghost use Rattle.desk.specs.InPlace.{lostIn, lossIn, storeIn, takeAnswer, takeIn};
-ghost use Rattle.desk.specs.Rules.{answer_of, eventRefusal, eventDone, eventRule, serveRefusal, serveDone, serveRule};
-ghost use Rattle.desk.specs.Rules.{bringRefusal, bringDone, bringRule};
-ghost use Rattle.desk.specs.Sound.{isSound};
-ghost use Rattle.desk_sums.specs.Rows.{usedSum, pastSum};
-ghost use Rattle.desk_sums.specs.Sums.{noSum};
+ghost use Rattle.desk.specs.Desk.{cell_at, place_at};
+ghost use Rattle.desk.specs.InPlace.{lost_in, loss_in, store_in, take_answer, take_in};
+ghost use Rattle.desk.specs.Rules.{answer_of, event_refusal, event_done, event_rule, serve_refusal, serve_done, serve_rule};
+ghost use Rattle.desk.specs.Rules.{bring_refusal, bring_done, bring_rule};
+ghost use Rattle.desk.specs.Sound.{is_sound};
+ghost use Rattle.desk_sums.specs.Rows.{used_sum, past_sum};
+ghost use Rattle.desk_sums.specs.Sums.{no_sum};
 
 use crate::codes::{bring_code, event_code, serve_code};
 use clock::Clock;
@@ -26,7 +26,7 @@ mod codes;
 // The first n cells, which are the tray's.
 fn own_used(v: &mut Record, d: usize, n: usize) -> Sum
     requires { n ≤ 32 }
-    ensures { (result ≡ usedSum (placeAt v.old.tray) (cell_at v.old.row) d noSum n) × (v.new ≡ v.old) }
+    ensures { (result ≡ used_sum (place_at v.old.tray) (cell_at v.old.row) d no_sum n) × (v.new ≡ v.old) }
 {
     let mut sum = no_sum();
     let mut c: usize = 0;
@@ -40,7 +40,7 @@ fn own_used(v: &mut Record, d: usize, n: usize) -> Sum
 // The others, which are not.
 fn own_past(v: &mut Record, n: usize, s: Sum) -> Sum
     requires { n ≤ 32 }
-    ensures { (result ≡ pastSum (cell_at v.old.row) n s 32) × (v.new ≡ v.old) }
+    ensures { (result ≡ past_sum (cell_at v.old.row) n s 32) × (v.new ≡ v.old) }
 {
     let mut sum = s;
     let mut c = n;
@@ -53,7 +53,7 @@ fn own_past(v: &mut Record, n: usize, s: Sum) -> Sum
 
 // The row is summed, and then the sum is looked at with what stands beside the row.
 fn sound(v: &mut Record) -> bool
-    ensures { (result ≡ isSound v.old) × (v.new ≡ v.old) }
+    ensures { (result ≡ is_sound v.old) × (v.new ≡ v.old) }
 {
     let desk = own_desk(v);
     let n = row_count(own_counts(v));
@@ -65,7 +65,7 @@ fn sound(v: &mut Record) -> bool
 // The desk loses its copies strictly before a clock that it learns; how many.
 fn lose(v: &mut Record, learnt: Clock) -> u32
     requires { v.old.tray.counts.cells ≤ 32 }
-    ensures { (result ≡ lossIn v.old learnt) × (v.new ≡ lostIn v.old learnt) }
+    ensures { (result ≡ loss_in v.old learnt) × (v.new ≡ lost_in v.old learnt) }
 {
     let d = desk_index(own_desk(v));
     let n = cells_of(own_counts(v));
@@ -84,7 +84,7 @@ fn lose(v: &mut Record, learnt: Clock) -> u32
 // A word stored in cell c, under the clock of the new seat.
 fn store(v: &mut Record, c: usize, s: Seat, word: u32)
     requires { c < 32 }
-    ensures { v.new ≡ storeIn v.old c s word }
+    ensures { v.new ≡ store_in v.old c s word }
 {
     put_own_seat(v, s);
     put_own(v, c, storing(s, word));
@@ -92,8 +92,8 @@ fn store(v: &mut Record, c: usize, s: Seat, word: u32)
 
 // An own event that nothing refuses, by what it changes.
 fn own(v: &mut Record, e: Event) -> Answer
-    requires { eventRefusal v.old e ≡ 0 }
-    ensures { (result ≡ answer_of (eventDone v.old e)) × (v.new ≡ (eventDone v.old e).after) }
+    requires { event_refusal v.old e ≡ 0 }
+    ensures { (result ≡ answer_of (event_done v.old e)) × (v.new ≡ (event_done v.old e).after) }
 {
     let desk = own_desk(v);
     let d = desk_index(desk);
@@ -117,8 +117,8 @@ fn own(v: &mut Record, e: Event) -> Answer
 // The keeper takes the write of a request. It stores before the sweep, which goes past a kept cell, and answers from the cell after it: what was
 // just stored is not read back at once.
 fn take_write(v: &mut Record, m: Message) -> Answer
-    requires { serveRefusal v.old m ≡ 0 }
-    ensures { (result ≡ takeAnswer v.old m) × (v.new ≡ takeIn v.old m) }
+    requires { serve_refusal v.old m ≡ 0 }
+    ensures { (result ≡ take_answer v.old m) × (v.new ≡ take_in v.old m) }
 {
     let s = took(own_seat(v), sent_clock(m));
     store(v, named_cell(m), s, sent_word(m));
@@ -128,8 +128,8 @@ fn take_write(v: &mut Record, m: Message) -> Answer
 
 // A request that nothing refuses.
 fn take(v: &mut Record, m: Message) -> Answer
-    requires { serveRefusal v.old m ≡ 0 }
-    ensures { (result ≡ answer_of (serveDone v.old m)) × (v.new ≡ (serveDone v.old m).after) }
+    requires { serve_refusal v.old m ≡ 0 }
+    ensures { (result ≡ answer_of (serve_done v.old m)) × (v.new ≡ (serve_done v.old m).after) }
 {
     if sends_write(m) {
         return take_write(v, m);
@@ -139,8 +139,8 @@ fn take(v: &mut Record, m: Message) -> Answer
 
 // An answer that nothing refuses. The named cell is no copy while the others are looked at.
 fn receive(v: &mut Record, m: Message) -> Answer
-    requires { bringRefusal v.old m ≡ 0 }
-    ensures { (result ≡ answer_of (bringDone v.old m)) × (v.new ≡ (bringDone v.old m).after) }
+    requires { bring_refusal v.old m ≡ 0 }
+    ensures { (result ≡ answer_of (bring_done v.old m)) × (v.new ≡ (bring_done v.old m).after) }
 {
     let c = named_cell(m);
     let s = own_seat(v);
@@ -153,7 +153,7 @@ fn receive(v: &mut Record, m: Message) -> Answer
 
 // Kinds 1 Read, 2 Write and 5 Drop for this desk, whatever desk the event names.
 pub fn event(v: &mut Record, e: Event) -> Answer
-    ensures { (result ≡ answer_of (eventRule v.old e)) × (v.new ≡ (eventRule v.old e).after) }
+    ensures { (result ≡ answer_of (event_rule v.old e)) × (v.new ≡ (event_rule v.old e).after) }
 {
     let ok = sound(v);
     let code = event_code(ok, own_tray(v), own_desk(v), own_seat(v), e);
@@ -165,7 +165,7 @@ pub fn event(v: &mut Record, e: Event) -> Answer
 
 // A request of another desk for a cell that this desk keeps.
 pub fn serve(v: &mut Record, m: Message) -> Answer
-    ensures { (result ≡ answer_of (serveRule v.old m)) × (v.new ≡ (serveRule v.old m).after) }
+    ensures { (result ≡ answer_of (serve_rule v.old m)) × (v.new ≡ (serve_rule v.old m).after) }
 {
     let ok = sound(v);
     let code = serve_code(ok, own_tray(v), own_desk(v), m);
@@ -177,7 +177,7 @@ pub fn serve(v: &mut Record, m: Message) -> Answer
 
 // The answer to what this desk asked comes home.
 pub fn bring(v: &mut Record, m: Message) -> Answer
-    ensures { (result ≡ answer_of (bringRule v.old m)) × (v.new ≡ (bringRule v.old m).after) }
+    ensures { (result ≡ answer_of (bring_rule v.old m)) × (v.new ≡ (bring_rule v.old m).after) }
 {
     let ok = sound(v);
     let code = bring_code(ok, own_tray(v), own_desk(v), own_seat(v), m);

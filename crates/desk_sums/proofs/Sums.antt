@@ -12,14 +12,14 @@ use lib.Dec.{T, ltb, nltb→le}
 use lib.WfN.{lt-wf_rel}
 use mir.Syntax.{w8, w64}
 use mir.Val.{Fits}
-use Rattle.desk.specs.Sound.{traySound}
+use Rattle.desk.specs.Sound.{tray_sound}
 use Rattle.desk_parts.proofs.Parts.{cell, spot, counts, tray, seat}
 use Rattle.walks.proofs.Lent.{PlainFn, always}
 use Rattle.walks.proofs.Plain.{Plain, Of, val, IsOf, Args, form, number, boolean, struct}
 use Rattle.desk_sums.specs.contracts.Sum as S
 use Rattle.desk_sums.proofs.Sum.TheLaws as S'
 use Rattle.desk_sums.specs.declared.Sum.{Sum}
-use Rattle.desk_sums.specs.Sums.{noSum, rest_of, addKept, addSeatOf, slotCell, usedBy, sumFits, recordFits, rowCount}
+use Rattle.desk_sums.specs.Sums.{no_sum, rest_of, add_kept, add_seat_of, slot_cell, used_by, sum_fits, record_fits, row_count}
 
 abbrev pub sum : Plain
 sum = struct (form S.struct S.the_propositions S'.the_laws S'.lowers S'.the_plain (λ d. refl) (λ v. tt))
@@ -29,36 +29,36 @@ abbrev value : (Ps : List Plain) (R : Plain) → (Args Ps → Of R) → PlainFn
 value Ps R res = record { Ps = Ps; R = R; pre = always; res = res }
 
 abbrev pub no-sum : PlainFn
-no-sum = value [] sum (λ a. noSum)
+no-sum = value [] sum (λ a. no_sum)
 
 abbrev pub add_kept : PlainFn
-add_kept = value (sum ∷ boolean ∷ cell ∷ []) sum (λ a. addKept a.0 a.1.0 a.1.1.0)
+add_kept = value (sum ∷ boolean ∷ cell ∷ []) sum (λ a. add_kept a.0 a.1.0 a.1.1.0)
 
 abbrev pub rest : PlainFn
 rest = value (sum ∷ cell ∷ []) sum (λ a. rest_of a.0 a.1.0)
 
 abbrev pub used-by : PlainFn
-used-by = value (counts ∷ number w64 ∷ []) (number w64) (λ a. usedBy a.0 a.1.0)
+used-by = value (counts ∷ number w64 ∷ []) (number w64) (λ a. used_by a.0 a.1.0)
 
 abbrev pub slot-cell : PlainFn
-slot-cell = value (seat ∷ []) (number w64) (λ a. slotCell a.0)
+slot-cell = value (seat ∷ []) (number w64) (λ a. slot_cell a.0)
 
 abbrev pub add-seat-of : PlainFn
 add-seat-of =
     value (sum ∷ counts ∷ number w64 ∷ spot ∷ seat ∷ []) sum
-    (λ a. addSeatOf a.0 a.1.0 a.1.1.0 a.1.1.1.0 a.1.1.1.1.0)
+    (λ a. add_seat_of a.0 a.1.0 a.1.1.0 a.1.1.1.0 a.1.1.1.1.0)
 
 abbrev pub tray-sound : PlainFn
-tray-sound = value (tray ∷ []) boolean (λ a. traySound a.0)
+tray-sound = value (tray ∷ []) boolean (λ a. tray_sound a.0)
 
 abbrev pub sum-fits-in : PlainFn
-sum-fits-in = value (sum ∷ counts ∷ []) boolean (λ a. sumFits a.0 a.1.0.desks)
+sum-fits-in = value (sum ∷ counts ∷ []) boolean (λ a. sum_fits a.0 a.1.0.desks)
 
 abbrev pub record-fits : PlainFn
-record-fits = value (tray ∷ number w8 ∷ seat ∷ sum ∷ []) boolean (λ a. recordFits a.0 a.1.0 a.1.1.0 a.1.1.1.0)
+record-fits = value (tray ∷ number w8 ∷ seat ∷ sum ∷ []) boolean (λ a. record_fits a.0 a.1.0 a.1.1.0 a.1.1.1.0)
 
 abbrev pub row_count : PlainFn
-row_count = value (counts ∷ []) (number w64) (λ a. rowCount a.0)
+row_count = value (counts ∷ []) (number w64) (λ a. row_count a.0)
 
 -- ---- a loop that counts from m up to n, where f c is the sum at the count c
 module _ (f : ℕ → Sum) (m n : ℕ) where

@@ -9,23 +9,23 @@ use Rattle.std.proofs.Math.Decide.{dec_lt, ℕ_discrete}
 use native.Mathlib.Omega.{arith}
 use Rattle.std.proofs.Math.Dec.{leb}
 use Rattle.clock.specs.declared.Clock.{Clock}
-use Rattle.clock.specs.Clock.{isWithin}
+use Rattle.clock.specs.Clock.{is_within}
 use Rattle.theory_lists.specs.Test.{gt_not_le, ge-not-lt}
 use Rattle.desk.specs.declared.Counts.{Counts}
 use Rattle.desk.specs.declared.Seat.{Seat}
 use Rattle.desk.specs.declared.Tray.{Tray}
-use Rattle.desk.specs.Desk.{isNoWord, placeAt, keeperOf, keeps, waits}
-use Rattle.desk.specs.Sound.{wordFits, sentFits, slotNames, slotCarries, slotSound, numbersOf, seatSound}
+use Rattle.desk.specs.Desk.{is_no_word, place_at, keeper_of, keeps, waits}
+use Rattle.desk.specs.Sound.{word_fits, sent_fits, slot_names, slot_carries, slot_sound, numbers_of, seat_sound}
 use Rattle.desk_sums.specs.declared.Sum.{Sum}
-use Rattle.desk_sums.specs.Sums.{addClock, stamped, slotBad, addSeat, addSeatOf, slotCell, sumFits, clockFits}
+use Rattle.desk_sums.specs.Sums.{add_clock, stamped, slot_bad, add_seat, add_seat_of, slot_cell, sum_fits, clock_fits}
 use Rattle.desk_sums.specs.Laws.{noted-adds, clock-adds, stamp-fits}
 
 -- the desk's own clock
-own-clock : (n : Counts) (desk : ℕ) (c : Clock) → clockFits n.desks (ltb desk n.desks) c 0 ≡ isWithin (numbersOf n desk) c
-unfolding clockFits isNoWord
+own-clock : (n : Counts) (desk : ℕ) (c : Clock) → clock_fits n.desks (ltb desk n.desks) c 0 ≡ is_within (numbers_of n desk) c
+unfolding clock_fits is_no_word
 own-clock n desk c = go (ltb desk n.desks) refl
   where
-    go : (b : Bool) → ltb desk n.desks ≡ b → clockFits n.desks (ltb desk n.desks) c 0 ≡ isWithin (numbersOf n desk) c
+    go : (b : Bool) → ltb desk n.desks ≡ b → clock_fits n.desks (ltb desk n.desks) c 0 ≡ is_within (numbers_of n desk) c
     go true p = rw p
     go false p = rw p
 
@@ -72,16 +72,16 @@ module _ (t : Tray) (desk : ℕ) (v : Seat) (most-cells : t.counts.cells ≤ 32)
   in-range = ltb v.slot.cell t.counts.cells
 
   own : Bool
-  own = eqb (keeperOf t (slotCell v)) desk
+  own = eqb (keeper_of t (slot_cell v)) desk
 
   first : Bool
-  first = isWithin (numbersOf t.counts desk) v.clock
+  first = is_within (numbers_of t.counts desk) v.clock
 
   none : Bool
-  none = isNoWord v.slot.word && isWithin 0 v.slot.clock
+  none = is_no_word v.slot.word && is_within 0 v.slot.clock
 
   some : Bool
-  some = isWithin t.counts.desks v.slot.clock && wordFits v.slot.word v.slot.clock
+  some = is_within t.counts.desks v.slot.clock && word_fits v.slot.word v.slot.clock
 
   -- a cell in range is the one at its place
   keeps-own : keeps t desk v.slot.cell ≡ (in-range && own)
@@ -95,38 +95,38 @@ module _ (t : Tray) (desk : ℕ) (v : Seat) (most-cells : t.counts.cells ≤ 32)
   by : (Bool → Bool → Bool → Bool → Bool → Bool → Bool → Bool → Bool → Bool → Bool → Bool → Bool) → Bool
   by f =
       f first (ltb desk t.counts.desks) (eqb v.slot.kind 0) (leb v.slot.kind 1) (leb v.slot.kind 4) in-range own
-      (eqb v.slot.cell 0) v.served none some (sentFits v.slot.kind v.slot.clock)
+      (eqb v.slot.cell 0) v.served none some (sent_fits v.slot.kind v.slot.clock)
 
   summed-is : (first
-      && clockFits t.counts.desks (stamped (ltb desk t.counts.desks && leb 2 v.slot.kind) v.slot.clock) v.slot.clock v.slot.word
-      && not (slotBad (ltb desk t.counts.desks) t.counts.cells own v.slot v.served)) ≡ by summed
-  unfolding by summed in-range none some slotBad
+      && clock_fits t.counts.desks (stamped (ltb desk t.counts.desks && leb 2 v.slot.kind) v.slot.clock) v.slot.clock v.slot.word
+      && not (slot_bad (ltb desk t.counts.desks) t.counts.cells own v.slot v.served)) ≡ by summed
+  unfolding by summed in-range none some slot_bad
   summed-is = rw (stamp-fits t.counts.desks (ltb desk t.counts.desks && leb 2 v.slot.kind) v.slot.clock v.slot.word, gt_not_le v.slot.kind 1, gt_not_le v.slot.kind 4, ge-not-lt v.slot.cell t.counts.cells)
 
-  stated-is : by stated ≡ seatSound t desk v
-  unfolding by stated first in-range none some seatSound slotSound slotNames slotCarries waits
+  stated-is : by stated ≡ seat_sound t desk v
+  unfolding by stated first in-range none some seat_sound slot_sound slot_names slot_carries waits
   stated-is = rw (keeps-own)
 
   same : by summed ≡ by stated
-  unfolding by first in-range own none some sentFits
+  unfolding by first in-range own none some sent_fits
   same =
       elim (ℕ_discrete v.slot.kind 0) [
         | yes e ↦ rw e (slot-empty first (ltb desk t.counts.desks) in-range own (eqb v.slot.cell 0) v.served none some)
         | no ne ↦ rw (ne_eqb v.slot.kind 0 ne)
             (slot-full first (ltb desk t.counts.desks) (leb v.slot.kind 1) (leb v.slot.kind 4) in-range own (eqb v.slot.cell 0)
-            v.served none some (sentFits v.slot.kind v.slot.clock))
+            v.served none some (sent_fits v.slot.kind v.slot.clock))
       ]
 
-  pub seat-adds : (s : Sum) → sumFits (addSeatOf s t.counts desk (placeAt t (slotCell v)) v) t.counts.desks
-      ≡ (sumFits s t.counts.desks && seatSound t desk v)
-  unfolding addSeat own first
+  pub seat-adds : (s : Sum) → sum_fits (add_seat_of s t.counts desk (place_at t (slot_cell v)) v) t.counts.desks
+      ≡ (sum_fits s t.counts.desks && seat_sound t desk v)
+  unfolding add_seat own first
   seat-adds s =
-      noted-adds two (slotBad there t.counts.cells own v.slot v.served) desks
+      noted-adds two (slot_bad there t.counts.cells own v.slot v.served) desks
       ∙ ap (λ (x : Bool). x && fine) (clock-adds one full v.slot.clock v.slot.word desks)
       ∙ ap (λ (x : Bool). x && carries && fine) (clock-adds s there v.clock 0 desks)
-      ∙ ap (λ (x : Bool). sumFits s desks && x && carries && fine) (own-clock t.counts desk v.clock)
-      ∙ out (sumFits s desks) first carries fine
-      ∙ ap (◌&&◌ (sumFits s desks)) (summed-is ∙ same ∙ stated-is)
+      ∙ ap (λ (x : Bool). sum_fits s desks && x && carries && fine) (own-clock t.counts desk v.clock)
+      ∙ out (sum_fits s desks) first carries fine
+      ∙ ap (◌&&◌ (sum_fits s desks)) (summed-is ∙ same ∙ stated-is)
     where
       desks : ℕ
       desks = t.counts.desks
@@ -138,16 +138,16 @@ module _ (t : Tray) (desk : ℕ) (v : Seat) (most-cells : t.counts.cells ≤ 32)
       full = stamped (there && leb 2 v.slot.kind) v.slot.clock
 
       one : Sum
-      one = addClock s there v.clock 0
+      one = add_clock s there v.clock 0
 
       two : Sum
-      two = addClock one full v.slot.clock v.slot.word
+      two = add_clock one full v.slot.clock v.slot.word
 
       carries : Bool
-      carries = clockFits desks full v.slot.clock v.slot.word
+      carries = clock_fits desks full v.slot.clock v.slot.word
 
       fine : Bool
-      fine = not (slotBad there t.counts.cells own v.slot v.served)
+      fine = not (slot_bad there t.counts.cells own v.slot v.served)
 
       out : (a b c d : Bool) → (a && b && c && d) ≡ (a && (b && c && d))
       out a b c d = simp and_assoc

@@ -1,9 +1,9 @@
 // Soundness as a running sum that is tested once: what each cell and each seat adds, and the test.
 // A walk over a table's or a record's entries calls these, each on small things by value.
 ghost use Rattle.std.specs.Prelude.{◌≡◌};
-ghost use Rattle.desk.specs.Desk.{keptBy};
-ghost use Rattle.desk_sums.specs.Sums.{noSum, joined, orPast, rest_of, addKept, addClock, slotBad, addSeat, addSeatOf, slotCell, sumFits};
-ghost use Rattle.desk_sums.specs.Sums.{usedBy, recordFits, rowCount};
+ghost use Rattle.desk.specs.Desk.{kept_by};
+ghost use Rattle.desk_sums.specs.Sums.{no_sum, joined, or_past, rest_of, add_kept, add_clock, slot_bad, add_seat, add_seat_of, slot_cell, sum_fits};
+ghost use Rattle.desk_sums.specs.Sums.{used_by, record_fits, row_count};
 
 use clock::Clock;
 use desk::sound::{is_blank, sent_fits, tray_sound};
@@ -27,7 +27,7 @@ impl Sum {
 }
 
 pub fn no_sum() -> Sum
-    ensures { result ≡ noSum }
+    ensures { result ≡ no_sum }
 {
     Sum::NONE
 }
@@ -51,14 +51,14 @@ fn over(a: Clock, b: Clock) -> Clock
 }
 
 fn or8(s: Clock) -> u32
-    ensures { result ≡ orPast s 0 }
+    ensures { result ≡ or_past s 0 }
 {
     s.n[0] | s.n[1] | s.n[2] | s.n[3] | s.n[4] | s.n[5] | s.n[6] | s.n[7]
 }
 
 // The numbers from desk d on.
 fn or_past(s: Clock, d: usize) -> u32
-    ensures { result ≡ orPast s d }
+    ensures { result ≡ or_past s d }
 {
     let mut all: u32 = 0;
     let mut k = d;
@@ -86,7 +86,7 @@ pub fn rest(s: Sum, x: Cell) -> Sum
 // A cell of the tray. A held one whose stamp is all zeros is added as one that is not held, so that its word must be 0. (`kept` is looked at only
 // where no stamp is held: a keeper's cells cost nothing.)
 pub fn add_kept(s: Sum, kept: bool, x: Cell) -> Sum
-    ensures { result ≡ addKept s kept x }
+    ensures { result ≡ add_kept s kept x }
 {
     let stamp = x.stamp;
     let h = s.h;
@@ -107,7 +107,7 @@ pub fn add_kept(s: Sum, kept: bool, x: Cell) -> Sum
 
 // A clock that may be there, with any word; or that must be zero, with its word.
 fn add_clock(s: Sum, carried: bool, c: Clock, word: u32) -> Sum
-    ensures { result ≡ addClock s carried c word }
+    ensures { result ≡ add_clock s carried c word }
 {
     let h = s.h;
     let z = s.z;
@@ -126,7 +126,7 @@ fn add_clock(s: Sum, carried: bool, c: Clock, word: u32) -> Sum
 }
 
 fn slot_bad(there: bool, cells: u8, own: bool, s: Slot, served: bool) -> bool
-    ensures { result ≡ slotBad there cells own s served }
+    ensures { result ≡ slot_bad there cells own s served }
 {
     if s.kind == 0 {
         return served | (s.cell != 0);
@@ -136,7 +136,7 @@ fn slot_bad(there: bool, cells: u8, own: bool, s: Slot, served: bool) -> bool
 
 // What a desk has beside its cells: whether the desk is there, the cell count, whether it keeps the cell that its slot names.
 pub fn add_seat(s: Sum, there: bool, cells: u8, own: bool, v: Seat) -> Sum
-    ensures { result ≡ addSeat s there cells own v }
+    ensures { result ≡ add_seat s there cells own v }
 {
     let slot = v.slot;
     let one = add_clock(s, there, v.clock, 0);
@@ -153,7 +153,7 @@ pub fn add_seat(s: Sum, there: bool, cells: u8, own: bool, v: Seat) -> Sum
 
 // The place to hand to `add_seat_of`: no further than the tray's places.
 pub fn slot_cell(v: Seat) -> usize
-    ensures { result ≡ slotCell v }
+    ensures { result ≡ slot_cell v }
 {
     let s = v.slot;
     s.cell as usize % 32
@@ -161,20 +161,20 @@ pub fn slot_cell(v: Seat) -> usize
 
 // Desk d's seat, whose slot's cell has place p.
 pub fn add_seat_of(s: Sum, n: Counts, d: usize, p: Place, v: Seat) -> Sum
-    ensures { result ≡ addSeatOf s n d p v }
+    ensures { result ≡ add_seat_of s n d p v }
 {
     add_seat(s, d < n.desks as usize, n.cells, keeps(p, d), v)
 }
 
 pub fn keeps(p: Place, d: usize) -> bool
-    ensures { result ≡ keptBy p d }
+    ensures { result ≡ kept_by p d }
 {
     p.keeper as usize == d
 }
 
 // How many of desk d's cells are the tray's: none if the desk is absent.
 pub fn used_by(n: Counts, d: usize) -> usize
-    ensures { result ≡ usedBy n d }
+    ensures { result ≡ used_by n d }
 {
     if d < n.desks as usize {
         return n.cells as usize;
@@ -184,13 +184,13 @@ pub fn used_by(n: Counts, d: usize) -> usize
 
 // The same, told the counts.
 pub fn sum_fits_in(s: Sum, n: Counts) -> bool
-    ensures { result ≡ sumFits s n.desks }
+    ensures { result ≡ sum_fits s n.desks }
 {
     sum_fits(s, n.desks)
 }
 
 pub fn sum_fits(s: Sum, desks: u8) -> bool
-    ensures { result ≡ sumFits s desks }
+    ensures { result ≡ sum_fits s desks }
 {
     let h = s.h;
     let z = s.z;
@@ -199,7 +199,7 @@ pub fn sum_fits(s: Sum, desks: u8) -> bool
 
 // A record without its row, and the row's sum: whether the record is sound.
 pub fn record_fits(t: Tray, desk: u8, v: Seat, row: Sum) -> bool
-    ensures { result ≡ recordFits t desk v row }
+    ensures { result ≡ record_fits t desk v row }
 {
     if !tray_sound(t) {
         return false;
@@ -213,7 +213,7 @@ pub fn record_fits(t: Tray, desk: u8, v: Seat, row: Sum) -> bool
 
 // How far a record's row is looked at as the tray's, before the tray is known to be sound.
 pub fn row_count(n: Counts) -> usize
-    ensures { result ≡ rowCount n }
+    ensures { result ≡ row_count n }
 {
     if n.cells < 32 { n.cells as usize } else { 32 }
 }

@@ -1,6 +1,6 @@
 // Frames: one message as one row of bytes, and back. Here is what both ways share; reading and writing stand in the crates above.
 ghost use Rattle.std.specs.Prelude.{◌≡◌, ◌||◌, ltb};
-ghost use Rattle.frame.specs.Frame.{carried, faultOf};
+ghost use Rattle.frame.specs.Frame.{carried, fault_of};
 
 use desk::Message;
 
@@ -23,7 +23,7 @@ pub struct Written {
 
 // What reading and writing refuse alike.
 pub fn fault(kind: u8, desks: u8, desk: u8, cell: u8) -> u32
-    ensures { result ≡ faultOf kind desks desk cell }
+    ensures { result ≡ fault_of kind desks desk cell }
 {
     if outside(1, 4, kind) {
         return 32;

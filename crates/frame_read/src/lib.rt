@@ -1,7 +1,7 @@
 // Reading a frame: the message that a row of bytes starts with.
 ghost use Rattle.std.specs.Prelude.{◌≡◌, ◌+◌, ◌*◌, ◌≤◌, length, take, drop};
 ghost use Rattle.spelling.specs.Bytes.{numeral};
-ghost use Rattle.frame.specs.Frame.{messageIn, read_code, readRule};
+ghost use Rattle.frame.specs.Frame.{message_in, read_code, read_rule};
 
 use clock::Clock;
 use desk::Message;
@@ -10,7 +10,7 @@ use spelling::{four_at, two_at};
 
 // The message whose frame the bytes start with. What follows the frame is another's.
 pub fn read(s: &[u8]) -> Reading
-    ensures { result ≡ readRule s.now }
+    ensures { result ≡ read_rule s.now }
 {
     let code = read_code(s);
     if code != 0 {
@@ -58,7 +58,7 @@ fn read_code(s: &[u8]) -> u32
 
 fn message_in(s: &[u8], c: usize) -> Message
     requires { 7 + 4 * c ≤ length s.now }
-    ensures { result ≡ messageIn (take (7 + 4 * c) s.now) }
+    ensures { result ≡ message_in (take (7 + 4 * c) s.now) }
 {
     Message {
         kind: s[3],

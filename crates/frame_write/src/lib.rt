@@ -1,9 +1,9 @@
 // Writing a frame: a message as a row of bytes.
 ghost use Rattle.std.specs.Prelude.{◌≡◌, ◌∷◌, ◌++◌, ◌+◌, ◌*◌, ◌≤◌, length, take, drop};
-ghost use Rattle.theory_lists.specs.Each.{mapAt};
+ghost use Rattle.theory_lists.specs.Each.{map_at};
 ghost use Rattle.theory_lists.specs.Test.{every};
 ghost use Rattle.spelling.specs.Bytes.{spell, put};
-ghost use Rattle.frame.specs.Frame.{widths, carriedOrZero, writeRule, outputRule};
+ghost use Rattle.frame.specs.Frame.{widths, carried_or_zero, write_rule, output_rule};
 ghost use Rattle.frame.specs.Laws.{head_of};
 ghost use Rattle.frame_write.specs.Given.{given};
 
@@ -21,7 +21,7 @@ pub fn write(
     word: u32,
     clock: Clock,
 ) -> Written
-    ensures { (result ≡ writeRule (given kind desks desk cell word clock) out.old) × (out.new ≡ outputRule (given kind desks desk cell word clock) out.old) }
+    ensures { (result ≡ write_rule (given kind desks desk cell word clock) out.old) × (out.new ≡ output_rule (given kind desks desk cell word clock) out.old) }
 {
     if kind == 1 {
         return bare(out, clock, word, desks, desk, cell);
@@ -32,7 +32,7 @@ pub fn write(
 // A read asked: its frame is the head alone. (What it must not have comes first: were the parts in `write`'s order, the compiler would load them before it
 // looks at the kind, and save registers for them.)
 pub fn bare(out: &mut [u8], clock: Clock, word: u32, desks: u8, desk: u8, cell: u8) -> Written
-    ensures { (result ≡ writeRule (given 1 desks desk cell word clock) out.old) × (out.new ≡ outputRule (given 1 desks desk cell word clock) out.old) }
+    ensures { (result ≡ write_rule (given 1 desks desk cell word clock) out.old) × (out.new ≡ output_rule (given 1 desks desk cell word clock) out.old) }
 {
     let head = fault(1, desks, desk, cell);
     if head != 0 {
@@ -62,7 +62,7 @@ fn whole(
     clock: Clock,
 ) -> Written
     requires { kind ≡ 1 → ⊥ }
-    ensures { (result ≡ writeRule (given kind desks desk cell word clock) out.old) × (out.new ≡ outputRule (given kind desks desk cell word clock) out.old) }
+    ensures { (result ≡ write_rule (given kind desks desk cell word clock) out.old) × (out.new ≡ output_rule (given kind desks desk cell word clock) out.old) }
 {
     let code = fault(kind, desks, desk, cell);
     if code != 0 {
@@ -88,7 +88,7 @@ fn whole(
 // Whether the clock's numbers are 0 from place n on: they are not sent, so nothing may be lost with them.
 fn zero_from(clock: Clock, n: usize) -> bool
     requires { n ≤ 8 }
-    ensures { result ≡ every (mapAt (carriedOrZero n) clock.n) }
+    ensures { result ≡ every (map_at (carried_or_zero n) clock.n) }
 {
     let mut zero = true;
     for k in n..8 {

@@ -1,11 +1,11 @@
 // What the script program answers, as a function from an input slice to an output slice.
 ghost use Rattle.std.specs.Prelude.{true, ◌∷◌, [], ◌≡◌, ◌+◌, ◌≤◌, ◌<◌, length, drop};
 ghost use Rattle.table.specs.Room.{Room};
-ghost use Rattle.table.specs.Sound.{tableSound};
+ghost use Rattle.table.specs.Sound.{table_sound};
 ghost use Rattle.text.specs.Line.{lines_of, line_of};
 ghost use Rattle.text.specs.Printing.{Put};
-ghost use Rattle.text.specs.Script.{run as Script·run, sized, answer as Script·answer};
-ghost use Rattle.script.specs.Rules.{setUp, event};
+ghost use Rattle.text.specs.Script.{run as script_run, sized, answer as script_answer};
+ghost use Rattle.script.specs.Rules.{set_up, event};
 
 use desk::{Event, Plan, Reply};
 use table::Table;
@@ -15,7 +15,7 @@ use text_print::{put_bad_line, put_reply, put_single, put_too_long};
 // Puts what the whole input must answer at the start of out, and says how many bytes it has. The room is enough for any input: a reply of
 // at most 33 bytes to each event of at least 8, in 65,536 bytes, and a last line.
 pub fn answer(s: &[u8], out: &mut [u8; 270400]) -> usize
-    ensures put { Put (Script·answer setUp event s.now) out.old 0 out.new result }
+    ensures put { Put (script_answer set_up event s.now) out.old 0 out.new result }
     ensures upper_bound { result ≤ 270400 }
 {
     if 65536 < s.len() {
@@ -32,7 +32,7 @@ pub fn answer(s: &[u8], out: &mut [u8; 270400]) -> usize
 fn begin(desks: u32, cells: u32, s: &[u8], at: usize, out: &mut [u8]) -> usize
     requires s_len_bound { length s.now ≤ 65536 }
     requires in_bounds { 270400 ≤ length out.old }
-    ensures put { Put (sized setUp event desks cells (lines_of (drop at s.now))) out.old 0 out.new result }
+    ensures put { Put (sized set_up event desks cells (lines_of (drop at s.now))) out.old 0 out.new result }
     ensures upper_bound { result ≤ 270400 }
 {
     if (0 < cells) & (cells <= 32) {
@@ -51,7 +51,7 @@ fn second(desks: u32, cells: u32, s: &[u8], at: usize, out: &mut [u8]) -> usize
     requires cells_nonzero { (0 < cells) × (cells ≤ 32) }
     requires s_len_bound { length s.now ≤ 65536 }
     requires in_bounds { 270400 ≤ length out.old }
-    ensures put { Put (sized setUp event desks cells (lines_of (drop at s.now))) out.old 0 out.new result }
+    ensures put { Put (sized set_up event desks cells (lines_of (drop at s.now))) out.old 0 out.new result }
     ensures upper_bound { result ≤ 270400 }
 {
     let two = read_line(s, at);
@@ -73,10 +73,10 @@ fn second(desks: u32, cells: u32, s: &[u8], at: usize, out: &mut [u8]) -> usize
 
 // The answer to the events. A fresh table is sound and every event keeps it so: none is tested.
 fn run(t: Table, s: &[u8], start: usize, out: &mut [u8]) -> usize
-    requires t_value { (tableSound t ≡ true) × Room t }
+    requires t_value { (table_sound t ≡ true) × Room t }
     requires s_len_bound { length s.now ≤ 65536 }
     requires in_bounds { 270400 ≤ length out.old }
-    ensures put { Put (Script·run setUp event t 3 (lines_of (drop start s.now))) out.old 0 out.new result }
+    ensures put { Put (script_run set_up event t 3 (lines_of (drop start s.now))) out.old 0 out.new result }
     ensures upper_bound { result ≤ 270400 }
 {
     let mut table = t;

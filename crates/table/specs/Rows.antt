@@ -8,11 +8,11 @@ use Rattle.std.proofs.Math.Seq.{slice, paste, get_or-set_same, length-slice, tak
 use Rattle.std.proofs.lemmas.List.Edits.{length-paste}
 use Rattle.desk.specs.declared.Cell.{Cell}
 use Rattle.desk.specs.declared.Record.{Record}
-use Rattle.desk.specs.Desk.{pastCell, pastSeat}
+use Rattle.desk.specs.Desk.{past_cell, past_seat}
 use Rattle.desk.specs.SameDesk.{SameDesk}
 use Rattle.theory_lists.specs.Part.{slice-paste, slice-apart}
 use Rattle.table.specs.declared.Table.{Table}
-use Rattle.table.specs.Table.{recordOf, put_back}
+use Rattle.table.specs.Table.{record_of, put_back}
 
 -- the lengths of a table's arrays, which the lists behind them lack
 pub record Sized (t : Table) : Type 0 where
@@ -20,8 +20,8 @@ pub record Sized (t : Table) : Type 0 where
   pub all-places : length t.tray.places ≡ 32
   pub all-seats : length t.seats ≡ 8
 
-pub row-length : (t : Table) (desk : ℕ) → Sized t → desk < 8 → length (recordOf t desk).row ≡ 32
-unfolding recordOf
+pub row-length : (t : Table) (desk : ℕ) → Sized t → desk < 8 → length (record_of t desk).row ≡ 32
+unfolding record_of
 row-length t desk z h = length-slice (desk * 32) (desk * 32 + 32) t.cells (omega (arith, z.all-cells)) ∙ (omega arith)
 
 -- past the last desk there is nothing
@@ -29,9 +29,9 @@ none-there : (p : ℕ) (l : List Cell) → length l ≡ 256 → 8 ≤ p → slic
 none-there p l e h = drop_of_length-le (take (p * 32 + 32) l) {i = p * 32} (omega (arith, length-take (p * 32 + 32) l))
 
 -- ---- a record of the same desk put back
-module _ (t : Table) (desk : ℕ) (u : Record) (z : Sized t) (h : desk < 8) (same : SameDesk (recordOf t desk) u) where
+module _ (t : Table) (desk : ℕ) (u : Record) (z : Sized t) (h : desk < 8) (same : SameDesk (record_of t desk) u) where
   below : u.desk < 8
-  unfolding recordOf
+  unfolding record_of
   below = rw same.same_number h
 
   long : length u.row ≡ 32
@@ -44,12 +44,12 @@ module _ (t : Table) (desk : ℕ) (u : Record) (z : Sized t) (h : desk < 8) (sam
   unfolding put_back
   put-sized = record { all-cells = pasted; all-places = z.all-places; all-seats = length-set t.seats u.desk u.seat ∙ z.all-seats }
 
-  pub put_same : recordOf (put_back t u) desk ≡ u
-  unfolding recordOf put_back
+  pub put_same : record_of (put_back t u) desk ≡ u
+  unfolding record_of put_back
   put_same =
       rw (
         ← same.same_number,
-        get_or-set_same t.seats u.desk u.seat pastSeat (omega (arith, below)),
+        get_or-set_same t.seats u.desk u.seat past_seat (omega (arith, below)),
         row,
         ← same.same-tray,
       )
@@ -59,9 +59,9 @@ module _ (t : Table) (desk : ℕ) (u : Record) (z : Sized t) (h : desk < 8) (sam
           slice-paste t.cells (u.desk * 32) u.row 32 (omega (arith, below)) (omega (arith, long))
           ∙ take_all 32 u.row (omega (arith, long))
 
-  pub put_other : (p : ℕ) → (p ≡ desk → ⊥) → recordOf (put_back t u) p ≡ recordOf t p
-  unfolding recordOf put_back
-  put_other p ne = rw (get_or-set_other t.seats u.desk p u.seat pastSeat other, row)
+  pub put_other : (p : ℕ) → (p ≡ desk → ⊥) → record_of (put_back t u) p ≡ record_of t p
+  unfolding record_of put_back
+  put_other p ne = rw (get_or-set_other t.seats u.desk p u.seat past_seat other, row)
     where
       other : p ≡ u.desk → ⊥
       other q = ne (q ∙ same.same_number)
@@ -73,7 +73,7 @@ module _ (t : Table) (desk : ℕ) (u : Record) (z : Sized t) (h : desk < 8) (sam
       row =
           elim (dec_lt p 8) [
             | yes there ↦ slice-apart t.cells (u.desk * 32) u.row 32 (omega (arith, below)) (omega (arith, long))
-                (p * 32) (p * 32 + 32) pastCell (omega arith) apart
+                (p * 32) (p * 32 + 32) past_cell (omega arith) apart
             | no past ↦ none-there p (paste t.cells (u.desk * 32) u.row 32) pasted (omega arith)
                 ∙ sym (none-there p t.cells z.all-cells (omega arith))
           ]

@@ -7,19 +7,19 @@ use Rattle.desk.specs.declared.Message.{Message}
 use Rattle.desk.specs.declared.Record.{Record}
 use Rattle.desk.specs.declared.Slot.{Slot}
 use Rattle.desk.specs.declared.Step.{Step}
-use Rattle.desk.specs.Rules.{withSlot, withSeat, refusedReply, slotMessage, placeLines, seatLines, eventDone, serveDone, bringDone}
+use Rattle.desk.specs.Rules.{with_slot, with_seat, refused_reply, slot_message, place_lines, seat_lines, event_done, serve_done, bring_done}
 use Rattle.theory_refusals.specs.Refusals.{Line, first_of, unless}
 use Rattle.table.specs.declared.Outcome.{Outcome}
 use Rattle.table.specs.declared.Table.{Table}
-use Rattle.table.specs.Sound.{tableSound}
-use Rattle.table.specs.Table.{seatOf, slot_of, keeperFor, recordOf, put_back}
+use Rattle.table.specs.Sound.{table_sound}
+use Rattle.table.specs.Table.{seat_of, slot_of, keeper_for, record_of, put_back}
 
 -- the refusals, in the order of 01's table
 unfoldable pub lines : Table → Event → List Line
 lines t e =
-    (9, not (tableSound t))
-    ∷ placeLines t.tray.counts e
-    ++ seatLines t.tray e.desk (seatOf t e.desk) e
+    (9, not (table_sound t))
+    ∷ place_lines t.tray.counts e
+    ++ seat_lines t.tray e.desk (seat_of t e.desk) e
 
 unfoldable pub refusal : Table → Event → ℕ
 refusal t e = first_of (lines t e)
@@ -29,43 +29,43 @@ unfoldable pub outcome : Table → Step → Outcome
 outcome t s = record { reply = s.reply; after = put_back t s.after }
 
 -- a desk's slot as a message
-unfoldable pub messageOf : Table → ℕ → Message
-messageOf t desk = slotMessage (recordOf t desk) (slot_of t desk)
+unfoldable pub message_of : Table → ℕ → Message
+message_of t desk = slot_message (record_of t desk) (slot_of t desk)
 
 -- 1 Read, 2 Write, 5 Drop
-unfoldable pub ownRule : Table → Event → Outcome
-ownRule t e = outcome t (eventDone (recordOf t e.desk) e)
+unfoldable pub own_rule : Table → Event → Outcome
+own_rule t e = outcome t (event_done (record_of t e.desk) e)
 
 -- 3 Take: the keeper serves the request, and the answer stands in the asker's slot
-abbrev pub answerSlot : Message → Slot
-answerSlot m = record { kind = m.kind; cell = m.cell; word = m.word; clock = m.clock }
+abbrev pub answer_slot : Message → Slot
+answer_slot m = record { kind = m.kind; cell = m.cell; word = m.word; clock = m.clock }
 
 abbrev pub answered : Record → Slot → Record
-answered v s = withSeat v (withSlot v.seat s v.seat.served)
+answered v s = with_seat v (with_slot v.seat s v.seat.served)
 
-unfoldable pub putAnswer : Table → ℕ → Message → Table
-putAnswer t desk m = put_back t (answered (recordOf t desk) (answerSlot m))
+unfoldable pub put_answer : Table → ℕ → Message → Table
+put_answer t desk m = put_back t (answered (record_of t desk) (answer_slot m))
 
-unfoldable pub keeperStep : Table → ℕ → Step
-keeperStep t desk = serveDone (recordOf t (keeperFor t desk)) (messageOf t desk)
+unfoldable pub keeper_step : Table → ℕ → Step
+keeper_step t desk = serve_done (record_of t (keeper_for t desk)) (message_of t desk)
 
-unfoldable pub takeRule : Table → ℕ → Outcome
-takeRule t desk =
+unfoldable pub take_rule : Table → ℕ → Outcome
+take_rule t desk =
     record {
-      reply = (keeperStep t desk).reply;
-      after = putAnswer (put_back t (keeperStep t desk).after) desk (keeperStep t desk).message;
+      reply = (keeper_step t desk).reply;
+      after = put_answer (put_back t (keeper_step t desk).after) desk (keeper_step t desk).message;
     }
 
 -- 4 Bring: the desk receives its answer
-unfoldable pub bringRule : Table → ℕ → Outcome
-bringRule t desk = outcome t (bringDone (recordOf t desk) (messageOf t desk))
+unfoldable pub bring_rule : Table → ℕ → Outcome
+bring_rule t desk = outcome t (bring_done (record_of t desk) (message_of t desk))
 
 unfoldable pub done : Table → Event → Outcome
-done t e = cond (eqb e.kind 3) (takeRule t e.desk) (cond (eqb e.kind 4) (bringRule t e.desk) (ownRule t e))
+done t e = cond (eqb e.kind 3) (take_rule t e.desk) (cond (eqb e.kind 4) (bring_rule t e.desk) (own_rule t e))
 
 -- "The reply is the number, value 0, count 0; the table stays as given."
-abbrev pub refusedWith : Table → ℕ → Outcome
-refusedWith t n = record { reply = refusedReply n; after = t }
+abbrev pub refused_with : Table → ℕ → Outcome
+refused_with t n = record { reply = refused_reply n; after = t }
 
-unfoldable pub eventRule : Table → Event → Outcome
-eventRule t e = unless (refusal t e) (refusedWith t) (done t e)
+unfoldable pub event_rule : Table → Event → Outcome
+event_rule t e = unless (refusal t e) (refused_with t) (done t e)

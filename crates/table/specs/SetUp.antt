@@ -4,26 +4,26 @@ use Rattle.std.specs.Prelude.{ℕ, ◌/◌, ◌%◌, replicate}
 use Rattle.desk.specs.declared.Cell.{Cell}
 use Rattle.desk.specs.declared.Plan.{Plan}
 use Rattle.desk.specs.declared.Tray.{Tray}
-use Rattle.desk.specs.Desk.{noCell, noSeat}
-use Rattle.desk.specs.Start.{keptAlone, freshTray, noTray, setUpRefusal}
-use Rattle.theory_lists.specs.Each.{mapAt}
+use Rattle.desk.specs.Desk.{no_cell, no_seat}
+use Rattle.desk.specs.Start.{kept_alone, fresh_tray, no_tray, set_up_refusal}
+use Rattle.theory_lists.specs.Each.{map_at}
 use Rattle.theory_refusals.specs.Refusals.{unless}
 use Rattle.table.specs.declared.SetUp.{SetUp}
 use Rattle.table.specs.declared.Table.{Table}
 
 -- entry i is cell i % 32 of desk i / 32
-abbrev pub freshCell : Tray → ℕ → Cell
-freshCell t i = keptAlone t (i / 32) (i % 32)
+abbrev pub fresh_cell : Tray → ℕ → Cell
+fresh_cell t i = kept_alone t (i / 32) (i % 32)
 
-unfoldable pub freshTable : Tray → Table
-freshTable t = record { cells = mapAt (λ i _. freshCell t i) (replicate 256 noCell); tray = t; seats = replicate 8 noSeat }
+unfoldable pub fresh_table : Tray → Table
+fresh_table t = record { cells = map_at (λ i _. fresh_cell t i) (replicate 256 no_cell); tray = t; seats = replicate 8 no_seat }
 
-unfoldable pub noTable : Table
-noTable = record { cells = replicate 256 noCell; tray = noTray; seats = replicate 8 noSeat }
+unfoldable pub no_table : Table
+no_table = record { cells = replicate 256 no_cell; tray = no_tray; seats = replicate 8 no_seat }
 
 -- a refusal gives its number and an all-zero table
-abbrev pub notSetUp : ℕ → SetUp
-notSetUp n = record { code = n; table = noTable }
+abbrev pub not_set_up : ℕ → SetUp
+not_set_up n = record { code = n; table = no_table }
 
-unfoldable pub setUpRule : Plan → SetUp
-setUpRule p = unless (setUpRefusal p) notSetUp (record { code = 0; table = freshTable (freshTray p) })
+unfoldable pub set_up_rule : Plan → SetUp
+set_up_rule p = unless (set_up_refusal p) not_set_up (record { code = 0; table = fresh_table (fresh_tray p) })

@@ -4,20 +4,20 @@ use Rattle.std.specs.Prelude.{Bool, ◌&&◌, List, ℕ, ◌/◌, ◌%◌}
 use Rattle.desk.specs.declared.Cell.{Cell}
 use Rattle.desk.specs.declared.Seat.{Seat}
 use Rattle.desk.specs.declared.Tray.{Tray}
-use Rattle.desk.specs.Sound.{traySound, cellSound, seatSound}
-use Rattle.theory_lists.specs.Each.{mapAt}
+use Rattle.desk.specs.Sound.{tray_sound, cell_sound, seat_sound}
+use Rattle.theory_lists.specs.Each.{map_at}
 use Rattle.theory_lists.specs.Test.{every}
 use Rattle.table.specs.declared.Table.{Table}
 
 -- entry i is cell i % 32 of desk i / 32
-unfoldable pub entrySound : Tray → ℕ → Cell → Bool
-entrySound t i x = cellSound t (i / 32) (i % 32) x
+unfoldable pub entry_sound : Tray → ℕ → Cell → Bool
+entry_sound t i x = cell_sound t (i / 32) (i % 32) x
 
-unfoldable pub cellsSound : Table → Bool
-cellsSound t = every (mapAt (entrySound t.tray) t.cells)
+unfoldable pub cells_sound : Table → Bool
+cells_sound t = every (map_at (entry_sound t.tray) t.cells)
 
-unfoldable pub seatsSound : Tray → List Seat → Bool
-seatsSound t seats = every (mapAt (seatSound t) seats)
+unfoldable pub seats_sound : Tray → List Seat → Bool
+seats_sound t seats = every (map_at (seat_sound t) seats)
 
-unfoldable pub tableSound : Table → Bool
-tableSound t = traySound t.tray && cellsSound t && seatsSound t.tray t.seats
+unfoldable pub table_sound : Table → Bool
+table_sound t = tray_sound t.tray && cells_sound t && seats_sound t.tray t.seats

@@ -5,22 +5,22 @@ use Rattle.std.proofs.Math.Seq.{slice, paste}
 use Rattle.desk.specs.declared.Record.{Record}
 use Rattle.desk.specs.declared.Seat.{Seat}
 use Rattle.desk.specs.declared.Slot.{Slot}
-use Rattle.desk.specs.Desk.{pastSeat, keeperOf}
+use Rattle.desk.specs.Desk.{past_seat, keeper_of}
 use Rattle.table.specs.declared.Table.{Table}
 
-abbrev pub seatOf : Table → ℕ → Seat
-seatOf t desk = get_or t.seats desk pastSeat
+abbrev pub seat_of : Table → ℕ → Seat
+seat_of t desk = get_or t.seats desk past_seat
 
 abbrev pub slot_of : Table → ℕ → Slot
-slot_of t desk = (seatOf t desk).slot
+slot_of t desk = (seat_of t desk).slot
 
 -- the desk that a waiting desk asks
-abbrev pub keeperFor : Table → ℕ → ℕ
-keeperFor t desk = keeperOf t.tray (slot_of t desk).cell
+abbrev pub keeper_for : Table → ℕ → ℕ
+keeper_for t desk = keeper_of t.tray (slot_of t desk).cell
 
 -- a desk's record: its row of the table with the tray and its number
-unfoldable pub recordOf : Table → ℕ → Record
-recordOf t desk = record { tray = t.tray; desk = desk; seat = seatOf t desk; row = slice (desk * 32) (desk * 32 + 32) t.cells }
+unfoldable pub record_of : Table → ℕ → Record
+record_of t desk = record { tray = t.tray; desk = desk; seat = seat_of t desk; row = slice (desk * 32) (desk * 32 + 32) t.cells }
 
 -- the record is its desk's row again
 unfoldable pub put_back : Table → Record → Table

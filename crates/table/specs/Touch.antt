@@ -6,24 +6,24 @@ use Rattle.std.proofs.Common.{sym, ◌∙◌, inl, inr, arith}
 use Rattle.desk.specs.declared.Event.{Event}
 use Rattle.desk.specs.declared.Record.{Record}
 use Rattle.desk.specs.declared.Slot.{Slot}
-use Rattle.desk.specs.Rules.{withSlot, eventDone, bringDone}
+use Rattle.desk.specs.Rules.{with_slot, event_done, bring_done}
 use Rattle.desk.specs.SameDesk.{SameDesk, seat-same, serve-answers, event-same, serve-same, bring-same}
 use Rattle.table.specs.declared.Outcome.{Outcome}
 use Rattle.table.specs.declared.Table.{Table}
 use Rattle.table.specs.Rows.{Sized, put-sized, put_same, put_other}
 use Rattle.table.specs.RuleLaws.{Passed, own-else, each-event, here, take-asks}
-use Rattle.table.specs.Rules.{refusal, outcome, messageOf, answerSlot, answered, putAnswer, keeperStep, takeRule, bringRule, ownRule, refusedWith, eventRule}
+use Rattle.table.specs.Rules.{refusal, outcome, message_of, answer_slot, answered, put_answer, keeper_step, take_rule, bring_rule, own_rule, refused_with, event_rule}
 use Rattle.table.specs.SoundLaws.{desk-below}
-use Rattle.table.specs.Table.{keeperFor, recordOf, put_back}
+use Rattle.table.specs.Table.{keeper_for, record_of, put_back}
 
 -- ---- a take: the keeper's record put back, and the answer put into the asker's slot
-module _ (t : Table) (z : Sized t) (k p : ℕ) (h : k < 8) (i : p < 8) (apart : p ≡ k → ⊥) (u : Record) (same : SameDesk (recordOf t k) u)
+module _ (t : Table) (z : Sized t) (k p : ℕ) (h : k < 8) (i : p < 8) (apart : p ≡ k → ⊥) (u : Record) (same : SameDesk (record_of t k) u)
     (s : Slot) where
   abbrev before : Table
   before = put_back t u
 
   abbrev asker : Record
-  asker = recordOf before p
+  asker = record_of before p
 
   abbrev pub after : Table
   after = put_back before (answered asker s)
@@ -32,32 +32,32 @@ module _ (t : Table) (z : Sized t) (k p : ℕ) (h : k < 8) (i : p < 8) (apart : 
   before-sized = put-sized t k u z h same
 
   stays : SameDesk asker (answered asker s)
-  stays = seat-same asker (withSlot asker.seat s asker.seat.served)
+  stays = seat-same asker (with_slot asker.seat s asker.seat.served)
 
   pub taken-sized : Sized after
   taken-sized = put-sized before p (answered asker s) before-sized i stays
 
-  pub taken-asker : recordOf after p ≡ answered (recordOf t p) s
+  pub taken-asker : record_of after p ≡ answered (record_of t p) s
   taken-asker = put_same before p (answered asker s) before-sized i stays ∙ ap (λ (w : Record). answered w s) (put_other t k u z h same p apart)
 
-  pub taken-keeper : recordOf after k ≡ u
+  pub taken-keeper : record_of after k ≡ u
   taken-keeper = put_other before p (answered asker s) before-sized i stays k (λ q. apart (sym q)) ∙ put_same t k u z h same
 
-  pub taken-rest : (q : ℕ) → (q ≡ k → ⊥) → (q ≡ p → ⊥) → recordOf after q ≡ recordOf t q
+  pub taken-rest : (q : ℕ) → (q ≡ k → ⊥) → (q ≡ p → ⊥) → record_of after q ≡ record_of t q
   taken-rest q nk np = put_other before p (answered asker s) before-sized i stays q np ∙ put_other t k u z h same q nk
 
 -- ---- the other desks
 -- the desks that an event's rule names: its own, and for a take the keeper asked
 abbrev pub Named : Table → Event → ℕ → Type 0
-Named t e p = (p ≡ e.desk) ⊎ ((e.kind ≡ 3) × (p ≡ keeperFor t e.desk))
+Named t e p = (p ≡ e.desk) ⊎ ((e.kind ≡ 3) × (p ≡ keeper_for t e.desk))
 
 module _ (t : Table) (e : Event) (z : Sized t) where
   abbrev keeper : ℕ
-  keeper = keeperFor t e.desk
+  keeper = keeper_for t e.desk
 
-  serve-stays : SameDesk (recordOf t keeper) (keeperStep t e.desk).after
-  unfolding keeperStep
-  serve-stays = serve-same (recordOf t keeper) (messageOf t e.desk)
+  serve-stays : SameDesk (record_of t keeper) (keeper_step t e.desk).after
+  unfolding keeper_step
+  serve-stays = serve-same (record_of t keeper) (message_of t e.desk)
 
   keeper-below : Passed t e → e.kind ≡ 3 → keeper < 8
   keeper-below a k = desk-below t a.sound keeper (take-asks t e a k).keeper-is
@@ -65,60 +65,60 @@ module _ (t : Table) (e : Event) (z : Sized t) where
   apart : Passed t e → e.kind ≡ 3 → e.desk ≡ keeper → ⊥
   apart a k q = (take-asks t e a k).another (sym q)
 
-  pub others-stay : (p : ℕ) → (Named t e p → ⊥) → recordOf (eventRule t e).after p ≡ recordOf t p
-  unfolding takeRule putAnswer bringRule ownRule outcome
+  pub others-stay : (p : ℕ) → (Named t e p → ⊥) → record_of (event_rule t e).after p ≡ record_of t p
+  unfolding take_rule put_answer bring_rule own_rule outcome
   others-stay p other =
-      let v = recordOf t e.desk in
-      let m = messageOf t e.desk in
-      let step = keeperStep t e.desk in
-      each-event (λ (o : Outcome). recordOf o.after p ≡ recordOf t p) t e z refl
+      let v = record_of t e.desk in
+      let m = message_of t e.desk in
+      let step = keeper_step t e.desk in
+      each-event (λ (o : Outcome). record_of o.after p ≡ record_of t p) t e z refl
       (λ a k.
-      taken-rest t z keeper e.desk (keeper-below a k) (here t e a) (apart a k) step.after serve-stays (answerSlot step.message) p
+      taken-rest t z keeper e.desk (keeper-below a k) (here t e a) (apart a k) step.after serve-stays (answer_slot step.message) p
       (λ q. other (inr (k, q))) (λ q. other (inl q)))
-      (λ a k. put_other t e.desk (bringDone v m).after z (here t e a) (bring-same v m) p (λ q. other (inl q)))
-      (λ a o. put_other t e.desk (eventDone v e).after z (here t e a) (event-same v e) p (λ q. other (inl q)))
+      (λ a k. put_other t e.desk (bring_done v m).after z (here t e a) (bring-same v m) p (λ q. other (inl q)))
+      (λ a o. put_other t e.desk (event_done v e).after z (here t e a) (event-same v e) p (λ q. other (inl q)))
 
-  pub tray-stays : (eventRule t e).after.tray ≡ t.tray
-  unfolding takeRule putAnswer bringRule ownRule outcome put_back
+  pub tray-stays : (event_rule t e).after.tray ≡ t.tray
+  unfolding take_rule put_answer bring_rule own_rule outcome put_back
   tray-stays = each-event (λ (o : Outcome). o.after.tray ≡ t.tray) t e z refl (λ a k. refl) (λ a k. refl) (λ a o. refl)
 
   -- ---- the two desks of a take
   module _ (a : Passed t e) (k : e.kind ≡ 3) where
-    pub asker-after : recordOf (takeRule t e.desk).after e.desk
-        ≡ answered (recordOf t e.desk) (answerSlot (keeperStep t e.desk).message)
-    unfolding takeRule putAnswer
+    pub asker-after : record_of (take_rule t e.desk).after e.desk
+        ≡ answered (record_of t e.desk) (answer_slot (keeper_step t e.desk).message)
+    unfolding take_rule put_answer
     asker-after =
-        let step = keeperStep t e.desk in
-        taken-asker t z keeper e.desk (keeper-below a k) (here t e a) (apart a k) step.after serve-stays (answerSlot step.message)
+        let step = keeper_step t e.desk in
+        taken-asker t z keeper e.desk (keeper-below a k) (here t e a) (apart a k) step.after serve-stays (answer_slot step.message)
 
-    pub keeper-after : recordOf (takeRule t e.desk).after (keeperFor t e.desk) ≡ (keeperStep t e.desk).after
-    unfolding takeRule putAnswer
+    pub keeper-after : record_of (take_rule t e.desk).after (keeper_for t e.desk) ≡ (keeper_step t e.desk).after
+    unfolding take_rule put_answer
     keeper-after =
-        let step = keeperStep t e.desk in
-        taken-keeper t z keeper e.desk (keeper-below a k) (here t e a) (apart a k) step.after serve-stays (answerSlot step.message)
+        let step = keeper_step t e.desk in
+        taken-keeper t z keeper e.desk (keeper-below a k) (here t e a) (apart a k) step.after serve-stays (answer_slot step.message)
 
-  each_take : (P : Outcome → Type 0) → e.kind ≡ 3 → P (refusedWith t (refusal t e)) → (Passed t e → P (takeRule t e.desk))
-      → P (eventRule t e)
+  each_take : (P : Outcome → Type 0) → e.kind ≡ 3 → P (refused_with t (refusal t e)) → (Passed t e → P (take_rule t e.desk))
+      → P (event_rule t e)
   each_take P k refuse take =
       each-event P t e z refuse (λ a _. take a) (λ a l. absurd (omega arith)) (λ a o. absurd ((own-else e o).0 k))
 
   -- the asker: its slot alone
   pub take-asker : e.kind ≡ 3
-      → recordOf (eventRule t e).after e.desk ≡ answered (recordOf t e.desk) (recordOf (eventRule t e).after e.desk).seat.slot
+      → record_of (event_rule t e).after e.desk ≡ answered (record_of t e.desk) (record_of (event_rule t e).after e.desk).seat.slot
   take-asker k =
-      each_take (λ (o : Outcome). recordOf o.after e.desk ≡ answered v (recordOf o.after e.desk).seat.slot) k refl
-      (λ a. slot-alone (recordOf (takeRule t e.desk).after e.desk) (answerSlot (keeperStep t e.desk).message) (asker-after a k))
+      each_take (λ (o : Outcome). record_of o.after e.desk ≡ answered v (record_of o.after e.desk).seat.slot) k refl
+      (λ a. slot-alone (record_of (take_rule t e.desk).after e.desk) (answer_slot (keeper_step t e.desk).message) (asker-after a k))
     where
       v : Record
-      v = recordOf t e.desk
+      v = record_of t e.desk
 
       slot-alone : (w : Record) (s : Slot) → w ≡ answered v s → w ≡ answered v w.seat.slot
       slot-alone w s q = rw q
 
   -- the keeper: its slot not
   pub take-keeper : e.kind ≡ 3
-      → (recordOf (eventRule t e).after (keeperFor t e.desk)).seat.slot ≡ (recordOf t (keeperFor t e.desk)).seat.slot
-  unfolding keeperStep
+      → (record_of (event_rule t e).after (keeper_for t e.desk)).seat.slot ≡ (record_of t (keeper_for t e.desk)).seat.slot
+  unfolding keeper_step
   take-keeper k =
-      each_take (λ (o : Outcome). (recordOf o.after keeper).seat.slot ≡ (recordOf t keeper).seat.slot) k refl
-      (λ a. ap (λ (w : Record). w.seat.slot) (keeper-after a k) ∙ (serve-answers (recordOf t keeper) (messageOf t e.desk)).slot-stays)
+      each_take (λ (o : Outcome). (record_of o.after keeper).seat.slot ≡ (record_of t keeper).seat.slot) k refl
+      (λ a. ap (λ (w : Record). w.seat.slot) (keeper-after a k) ∙ (serve-answers (record_of t keeper) (message_of t e.desk)).slot-stays)

@@ -6,8 +6,8 @@ use mathlib.Core.List.{[], ◌∷◌}
 use Rattle.desk_acts.proofs.Acts.{event}
 use Rattle.table.specs.contracts.Outcome as O
 use Rattle.table.proofs.Outcome.TheLaws as O'
-use Rattle.table.specs.Rules.{eventRule}
-use Rattle.table.specs.Sound.{tableSound}
+use Rattle.table.specs.Rules.{event_rule}
+use Rattle.table.specs.Sound.{table_sound}
 use Rattle.table_parts.proofs.Parts.{table}
 use Rattle.walks.proofs.Lent.{PlainFn, where-holds}
 use Rattle.walks.proofs.Plain.{Plain, Form, form, struct}
@@ -22,6 +22,6 @@ abbrev pub next : PlainFn
 next = record {
   Ps = table ∷ event ∷ [];
   R = outcome;
-  pre = where-holds (λ a. tableSound a.0 ≡ true);
-  res = λ a. eventRule a.0 a.1.0;
+  pre = where-holds (λ a. table_sound a.0 ≡ true);
+  res = λ a. event_rule a.0 a.1.0;
 }

@@ -4,8 +4,8 @@ use mathlib.Core.Path.{refl}
 use mathlib.Core.List.{[], ◌∷◌}
 use Prim.Native.Nat.{◌<◌}
 use mir.Syntax.{w64}
-use Rattle.desk.specs.Desk.{noCell, noPlace, noSeat, pastCell, pastSeat}
-use Rattle.desk.specs.Start.{blankCell}
+use Rattle.desk.specs.Desk.{no_cell, no_place, no_seat, past_cell, past_seat}
+use Rattle.desk.specs.Start.{blank_cell}
 use Rattle.desk_parts.proofs.Parts.{cell, spot, counts as both-counts, tray as whole-tray, seat, counts-of-tray, places-of-tray}
 use Rattle.table.specs.contracts.Table as T
 use Rattle.table.proofs.Table.TheLaws as T'
@@ -24,7 +24,7 @@ table = struct table-form
 
 -- ---- the parts
 abbrev pub cells_in : Row table cell 256
-cells_in = record { part = field_of table-form 0 refl refl; past = pastCell; fits = tt }
+cells_in = record { part = field_of table-form 0 refl refl; past = past_cell; fits = tt }
 
 abbrev pub tray-in : Part table whole-tray
 tray-in = field_of table-form 1 refl refl
@@ -33,10 +33,10 @@ abbrev pub counts-in : Part table both-counts
 counts-in = of tray-in counts-of-tray
 
 abbrev pub places-in : Row table spot 32
-places-in = record { part = of tray-in places-of-tray; past = noPlace; fits = tt }
+places-in = record { part = of tray-in places-of-tray; past = no_place; fits = tt }
 
 abbrev pub seats-in : Row table seat 8
-seats-in = record { part = field_of table-form 2 refl refl; past = pastSeat; fits = tt }
+seats-in = record { part = field_of table-form 2 refl refl; past = past_seat; fits = tt }
 
 -- ---- the functions
 abbrev pub counts : LentFn table
@@ -58,7 +58,7 @@ abbrev pub put-seat : LentFn table
 put-seat = setter-at seats-in
 
 abbrev pub clear-seat : LentFn table
-clear-seat = clearer-at seats-in noSeat
+clear-seat = clearer-at seats-in no_seat
 
 abbrev pub cell-at : LentFn table
 cell-at = getter-at cells_in
@@ -67,10 +67,10 @@ abbrev pub put-cell : LentFn table
 put-cell = setter-at cells_in
 
 abbrev pub clear-cell : LentFn table
-clear-cell = clearer-at cells_in noCell
+clear-cell = clearer-at cells_in no_cell
 
 abbrev pub keep-cell : LentFn table
-keep-cell = clearer-at cells_in blankCell
+keep-cell = clearer-at cells_in blank_cell
 
 abbrev pub copy-first : LentFn table
 copy-first = changes table (number w64 ∷ []) (where-holds (λ x. x.1.0 < 256)) (λ t a. with_at cells_in t a.0 (at cells_in t 0))

@@ -1,10 +1,10 @@
 // The table through a reference: its parts, each read and stored where it lies.
 ghost use Rattle.std.specs.Prelude.{◌≡◌, ◌<◌};
-ghost use Rattle.desk.specs.Desk.{noCell, noSeat, cell_at, placeAt};
-ghost use Rattle.desk.specs.Start.{blankCell};
-ghost use Rattle.table.specs.Changes.{withCell, withSeatOf};
-ghost use Rattle.table.specs.SetUpInPlace.{withTray};
-ghost use Rattle.table.specs.Table.{seatOf};
+ghost use Rattle.desk.specs.Desk.{no_cell, no_seat, cell_at, place_at};
+ghost use Rattle.desk.specs.Start.{blank_cell};
+ghost use Rattle.table.specs.Changes.{with_cell, with_seat_of};
+ghost use Rattle.table.specs.SetUpInPlace.{with_tray};
+ghost use Rattle.table.specs.Table.{seat_of};
 
 use desk::{Cell, Counts, Place, Seat, Tray};
 use table::Table;
@@ -22,7 +22,7 @@ pub fn tray(t: &mut Table) -> Tray
 }
 
 pub fn put_tray(t: &mut Table, x: Tray)
-    ensures { t.new ≡ withTray t.old x }
+    ensures { t.new ≡ with_tray t.old x }
 {
     t.tray = x;
 }
@@ -30,7 +30,7 @@ pub fn put_tray(t: &mut Table, x: Tray)
 // The place of cell c.
 pub fn place(t: &mut Table, c: usize) -> Place
     requires { c < 32 }
-    ensures { (result ≡ placeAt t.old.tray c) × (t.new ≡ t.old) }
+    ensures { (result ≡ place_at t.old.tray c) × (t.new ≡ t.old) }
 {
     t.tray.places[c]
 }
@@ -38,14 +38,14 @@ pub fn place(t: &mut Table, c: usize) -> Place
 // Desk d's seat.
 pub fn seat_of(t: &mut Table, d: usize) -> Seat
     requires { d < 8 }
-    ensures { (result ≡ seatOf t.old d) × (t.new ≡ t.old) }
+    ensures { (result ≡ seat_of t.old d) × (t.new ≡ t.old) }
 {
     t.seats[d]
 }
 
 pub fn put_seat(t: &mut Table, d: usize, s: Seat)
     requires { d < 8 }
-    ensures { t.new ≡ withSeatOf t.old d s }
+    ensures { t.new ≡ with_seat_of t.old d s }
 {
     t.seats[d] = s;
 }
@@ -53,7 +53,7 @@ pub fn put_seat(t: &mut Table, d: usize, s: Seat)
 // The constant is stored here and not passed, as in `desk_parts::clear_own_seat`.
 pub fn clear_seat(t: &mut Table, d: usize)
     requires { d < 8 }
-    ensures { t.new ≡ withSeatOf t.old d noSeat }
+    ensures { t.new ≡ with_seat_of t.old d no_seat }
 {
     t.seats[d] = Seat::NONE;
 }
@@ -68,7 +68,7 @@ pub fn cell_at(t: &mut Table, i: usize) -> Cell
 
 pub fn put_cell(t: &mut Table, i: usize, x: Cell)
     requires { i < 256 }
-    ensures { t.new ≡ withCell t.old i x }
+    ensures { t.new ≡ with_cell t.old i x }
 {
     t.cells[i] = x;
 }
@@ -76,7 +76,7 @@ pub fn put_cell(t: &mut Table, i: usize, x: Cell)
 // The constant as in `clear_seat`.
 pub fn clear_cell(t: &mut Table, i: usize)
     requires { i < 256 }
-    ensures { t.new ≡ withCell t.old i noCell }
+    ensures { t.new ≡ with_cell t.old i no_cell }
 {
     t.cells[i] = Cell::NONE;
 }
@@ -84,7 +84,7 @@ pub fn clear_cell(t: &mut Table, i: usize)
 // The same, for a cell that its keeper has at first.
 pub fn keep_cell(t: &mut Table, i: usize)
     requires { i < 256 }
-    ensures { t.new ≡ withCell t.old i blankCell }
+    ensures { t.new ≡ with_cell t.old i blank_cell }
 {
     t.cells[i] = Cell::BLANK;
 }
@@ -92,7 +92,7 @@ pub fn keep_cell(t: &mut Table, i: usize)
 // Entry i as entry 0 is. The bytes between a cell's fields are copied too, so that no store goes round them: all cells are cleared faster so.
 pub fn copy_first(t: &mut Table, i: usize)
     requires { i < 256 }
-    ensures { t.new ≡ withCell t.old i (cell_at t.old.cells 0) }
+    ensures { t.new ≡ with_cell t.old i (cell_at t.old.cells 0) }
 {
     t.cells[i] = t.cells[0];
 }

@@ -1,8 +1,8 @@
 // Setting up a table where it lies, and one that its caller owns.
 ghost use Rattle.std.specs.Prelude.{◌≡◌, replicate};
-ghost use Rattle.desk.specs.Desk.{noCell, noSeat};
-ghost use Rattle.table.specs.SetUp.{noTable, setUpRule};
-ghost use Rattle.table.specs.SetUpInPlace.{Housed, keptIn, withCells, withSeats};
+ghost use Rattle.desk.specs.Desk.{no_cell, no_seat};
+ghost use Rattle.table.specs.SetUp.{no_table, set_up_rule};
+ghost use Rattle.table.specs.SetUpInPlace.{Housed, kept_in, with_cells, with_seats};
 
 use desk::Plan;
 use desk_acts::{at, cells_of, keeper_of};
@@ -12,7 +12,7 @@ use table_parts::{clear_cell, clear_seat, copy_first, counts, keep_cell, place, 
 
 // A fresh table from any plan, in place of the one that is lent.
 pub fn set_up(t: &mut Table, plan: Plan) -> u32
-    ensures { (result ≡ (setUpRule plan).code) × (t.new ≡ (setUpRule plan).table) }
+    ensures { (result ≡ (set_up_rule plan).code) × (t.new ≡ (set_up_rule plan).table) }
 {
     let code = refusal(plan);
     clear(t);
@@ -26,7 +26,7 @@ pub fn set_up(t: &mut Table, plan: Plan) -> u32
 
 // The same as a value, for who owns the table: the borrow checker covers such a caller.
 pub fn made(plan: Plan) -> SetUp
-    ensures { result ≡ setUpRule plan }
+    ensures { result ≡ set_up_rule plan }
 {
     let mut table = Table::NONE;
     let code = set_up(&mut table, plan);
@@ -35,7 +35,7 @@ pub fn made(plan: Plan) -> SetUp
 
 // All zero: what a refusal leaves, and what a fresh table is made from.
 fn clear(t: &mut Table)
-    ensures { t.new ≡ noTable }
+    ensures { t.new ≡ no_table }
 {
     clear_cells(t);
     clear_seats(t);
@@ -43,7 +43,7 @@ fn clear(t: &mut Table)
 }
 
 fn clear_cells(t: &mut Table)
-    ensures { t.new ≡ withCells t.old (replicate 256 noCell) }
+    ensures { t.new ≡ with_cells t.old (replicate 256 no_cell) }
 {
     clear_cell(t, 0);
     let mut i: usize = 1;
@@ -54,7 +54,7 @@ fn clear_cells(t: &mut Table)
 }
 
 fn clear_seats(t: &mut Table)
-    ensures { t.new ≡ withSeats t.old (replicate 8 noSeat) }
+    ensures { t.new ≡ with_seats t.old (replicate 8 no_seat) }
 {
     let mut d: usize = 0;
     while d < 8 {
@@ -66,7 +66,7 @@ fn clear_seats(t: &mut Table)
 // Each cell is held by its keeper, blank.
 fn keep(t: &mut Table)
     requires { Housed t.old.tray }
-    ensures { t.new ≡ keptIn t.old }
+    ensures { t.new ≡ kept_in t.old }
 {
     let n = cells_of(counts(t));
     let mut c: usize = 0;

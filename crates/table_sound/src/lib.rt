@@ -1,9 +1,9 @@
 // Whether a table is sound, where it lies: everything that must fit is laid into one sum, which is tested at the end.
 ghost use Rattle.std.specs.Prelude.{◌≡◌, ◌+◌, ◌*◌, ◌<◌, ◌≤◌};
-ghost use Rattle.desk.specs.Desk.{cell_at, placeAt};
-ghost use Rattle.desk_sums.specs.Rows.{usedSum, pastSum, cellsSum, seatsSum};
-ghost use Rattle.table.specs.Sound.{tableSound};
-ghost use Rattle.table.specs.Table.{seatOf};
+ghost use Rattle.desk.specs.Desk.{cell_at, place_at};
+ghost use Rattle.desk_sums.specs.Rows.{used_sum, past_sum, cells_sum, seats_sum};
+ghost use Rattle.table.specs.Sound.{table_sound};
+ghost use Rattle.table.specs.Table.{seat_of};
 
 use desk::sound::tray_sound;
 use desk_acts::at;
@@ -14,7 +14,7 @@ use table_parts::{cell_at, counts, place, seat_of, tray};
 // The first n cells of desk d, which are the tray's.
 fn used_sum(t: &mut Table, d: usize, n: usize, s: Sum) -> Sum
     requires { (d < 8) × (n ≤ 32) }
-    ensures { (result ≡ usedSum (placeAt t.old.tray) (λ c. cell_at t.old.cells (d * 32 + c)) d s n) × (t.new ≡ t.old) }
+    ensures { (result ≡ used_sum (place_at t.old.tray) (λ c. cell_at t.old.cells (d * 32 + c)) d s n) × (t.new ≡ t.old) }
 {
     let mut sum = s;
     let mut c: usize = 0;
@@ -28,7 +28,7 @@ fn used_sum(t: &mut Table, d: usize, n: usize, s: Sum) -> Sum
 // Its other cells, which are not.
 fn past_sum(t: &mut Table, d: usize, n: usize, s: Sum) -> Sum
     requires { (d < 8) × (n ≤ 32) }
-    ensures { (result ≡ pastSum (λ c. cell_at t.old.cells (d * 32 + c)) n s 32) × (t.new ≡ t.old) }
+    ensures { (result ≡ past_sum (λ c. cell_at t.old.cells (d * 32 + c)) n s 32) × (t.new ≡ t.old) }
 {
     let mut sum = s;
     let mut c = n;
@@ -41,7 +41,7 @@ fn past_sum(t: &mut Table, d: usize, n: usize, s: Sum) -> Sum
 
 fn cells_sum(t: &mut Table) -> Sum
     requires { t.old.tray.counts.cells ≤ 32 }
-    ensures { (result ≡ cellsSum t.old.tray (cell_at t.old.cells) 8) × (t.new ≡ t.old) }
+    ensures { (result ≡ cells_sum t.old.tray (cell_at t.old.cells) 8) × (t.new ≡ t.old) }
 {
     let mut sum = no_sum();
     let mut d: usize = 0;
@@ -55,7 +55,7 @@ fn cells_sum(t: &mut Table) -> Sum
 }
 
 fn seats_sum(t: &mut Table) -> Sum
-    ensures { (result ≡ seatsSum t.old.tray (seatOf t.old) 8) × (t.new ≡ t.old) }
+    ensures { (result ≡ seats_sum t.old.tray (seat_of t.old) 8) × (t.new ≡ t.old) }
 {
     let mut sum = no_sum();
     let mut d: usize = 0;
@@ -68,7 +68,7 @@ fn seats_sum(t: &mut Table) -> Sum
 }
 
 pub fn sound(t: &mut Table) -> bool
-    ensures { (result ≡ tableSound t.old) × (t.new ≡ t.old) }
+    ensures { (result ≡ table_sound t.old) × (t.new ≡ t.old) }
 {
     if !tray_sound(tray(t)) {
         return false;

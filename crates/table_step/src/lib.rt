@@ -1,11 +1,11 @@
 // The five events where the table lies: a step names the cells and seats that it touches, and nothing large is copied.
 ghost use Rattle.std.specs.Prelude.{true, ◌≡◌, ◌<◌, ◌≤◌};
 ghost use Rattle.clock.specs.Clock.{number};
-ghost use Rattle.table.specs.Changes.{lostOf, lostCount};
-ghost use Rattle.table.specs.InPlace.{storeIn, takeWriteIn, takeIn, takeReply, bringIn, bringReply, ownIn, ownReplyIn};
-ghost use Rattle.table.specs.Rules.{refusal as refusal·def, done as done·def, eventRule};
-ghost use Rattle.table.specs.Sound.{tableSound};
-ghost use Rattle.table.specs.Table.{seatOf, slot_of, keeperFor};
+ghost use Rattle.table.specs.Changes.{lost_of, lost_count};
+ghost use Rattle.table.specs.InPlace.{store_in, take_write_in, take_in, take_reply, bring_in, bring_reply, own_in, own_reply_in};
+ghost use Rattle.table.specs.Rules.{refusal as refusal_def, done as done_def, event_rule};
+ghost use Rattle.table.specs.Sound.{table_sound};
+ghost use Rattle.table.specs.Table.{seat_of, slot_of, keeper_for};
 
 use clock::Clock;
 use desk::{Event, Reply, Seat};
@@ -23,7 +23,7 @@ use table_sound::sound;
 // Desk d loses its copies strictly before a clock that it learns; how many.
 fn lose(t: &mut Table, d: usize, learnt: Clock) -> u32
     requires { (d < 8) × (t.old.tray.counts.cells ≤ 32) }
-    ensures { (result ≡ lostCount t.old d learnt) × (t.new ≡ lostOf t.old d learnt) }
+    ensures { (result ≡ lost_count t.old d learnt) × (t.new ≡ lost_of t.old d learnt) }
 {
     let n = cells_of(counts(t));
     let mut lost: u32 = 0;
@@ -41,7 +41,7 @@ fn lose(t: &mut Table, d: usize, learnt: Clock) -> u32
 // Desk d stores a word in its cell c, under the clock of its new seat.
 fn store(t: &mut Table, d: usize, c: usize, s: Seat, word: u32)
     requires { (d < 8) × (c < 32) }
-    ensures { t.new ≡ storeIn t.old d c s word }
+    ensures { t.new ≡ store_in t.old d c s word }
 {
     put_seat(t, d, s);
     put_cell(t, at(d, c), storing(s, word));
@@ -49,8 +49,8 @@ fn store(t: &mut Table, d: usize, c: usize, s: Seat, word: u32)
 
 // Kinds 1, 2 and 5, by what they change.
 fn own(t: &mut Table, d: usize, c: usize, e: Event) -> Reply
-    requires { (d < 8) × (c < 32) × (e.cell < 32) × (e.kind ≡ 2 → number (seatOf t.old d).clock d ≡ 4294967295 → ⊥) }
-    ensures { (result ≡ ownReplyIn t.old d c e) × (t.new ≡ ownIn t.old d c e) }
+    requires { (d < 8) × (c < 32) × (e.cell < 32) × (e.kind ≡ 2 → number (seat_of t.old d).clock d ≡ 4294967295 → ⊥) }
+    ensures { (result ≡ own_reply_in t.old d c e) × (t.new ≡ own_in t.old d c e) }
 {
     let s = seat_of(t, d);
     let x = cell_at(t, at(d, c));
@@ -71,7 +71,7 @@ fn own(t: &mut Table, d: usize, c: usize, e: Event) -> Reply
 // Keeper k takes the write that seat s asks for.
 fn take_write(t: &mut Table, k: usize, c: usize, s: Seat) -> u32
     requires { (k < 8) × (c < 32) × (t.old.tray.counts.cells ≤ 32) }
-    ensures { (result ≡ lostCount t.old k s.slot.clock) × (t.new ≡ takeWriteIn t.old k c s) }
+    ensures { (result ≡ lost_count t.old k s.slot.clock) × (t.new ≡ take_write_in t.old k c s) }
 {
     let count = lose(t, k, sent(s));
     let keeper = took(seat_of(t, k), sent(s));
@@ -81,8 +81,8 @@ fn take_write(t: &mut Table, k: usize, c: usize, s: Seat) -> u32
 
 // The keeper serves desk d's request, and the answer stands in the slot of the desk that asked.
 fn take(t: &mut Table, d: usize) -> Reply
-    requires { (d < 8) × ((slot_of t.old d).cell < 32) × ((slot_of t.old d).kind < 3) × (keeperFor t.old d < 8) × (t.old.tray.counts.cells ≤ 32) }
-    ensures { (result ≡ takeReply t.old d) × (t.new ≡ takeIn t.old d) }
+    requires { (d < 8) × ((slot_of t.old d).cell < 32) × ((slot_of t.old d).kind < 3) × (keeper_for t.old d < 8) × (t.old.tray.counts.cells ≤ 32) }
+    ensures { (result ≡ take_reply t.old d) × (t.new ≡ take_in t.old d) }
 {
     let s = seat_of(t, d);
     let c = asked_cell(s);
@@ -99,7 +99,7 @@ fn take(t: &mut Table, d: usize) -> Reply
 // Desk d receives its answer. The named cell is no copy while the others are looked at.
 fn bring(t: &mut Table, d: usize) -> Reply
     requires { (d < 8) × ((slot_of t.old d).cell < 32) × (t.old.tray.counts.cells ≤ 32) }
-    ensures { (result ≡ bringReply t.old d) × (t.new ≡ bringIn t.old d) }
+    ensures { (result ≡ bring_reply t.old d) × (t.new ≡ bring_in t.old d) }
 {
     let s = seat_of(t, d);
     let i = at(d, asked_cell(s));
@@ -112,8 +112,8 @@ fn bring(t: &mut Table, d: usize) -> Reply
 
 // The first refusal of a sound table, in the order of 01's table; 0 where none applies.
 fn refusal(t: &mut Table, e: Event) -> u32
-    requires { tableSound t.old ≡ true }
-    ensures { (result ≡ refusal·def t.old e) × (t.new ≡ t.old) }
+    requires { table_sound t.old ≡ true }
+    ensures { (result ≡ refusal_def t.old e) × (t.new ≡ t.old) }
 {
     let code = unplaced(counts(t), e);
     if code != 0 {
@@ -124,8 +124,8 @@ fn refusal(t: &mut Table, e: Event) -> u32
 
 // An event that nothing refuses.
 fn done(t: &mut Table, e: Event) -> Reply
-    requires { refusal·def t.old e ≡ 0 }
-    ensures { (result ≡ (done·def t.old e).reply) × (t.new ≡ (done·def t.old e).after) }
+    requires { refusal_def t.old e ≡ 0 }
+    ensures { (result ≡ (done_def t.old e).reply) × (t.new ≡ (done_def t.old e).after) }
 {
     let d = desk_of(e);
     if is_kind(e, 3) {
@@ -139,8 +139,8 @@ fn done(t: &mut Table, e: Event) -> Reply
 
 // An event on a table that is known to be sound.
 pub fn step(t: &mut Table, e: Event) -> Reply
-    requires { tableSound t.old ≡ true }
-    ensures { (result ≡ (eventRule t.old e).reply) × (t.new ≡ (eventRule t.old e).after) }
+    requires { table_sound t.old ≡ true }
+    ensures { (result ≡ (event_rule t.old e).reply) × (t.new ≡ (event_rule t.old e).after) }
 {
     let code = refusal(t, e);
     if code != 0 {
@@ -151,7 +151,7 @@ pub fn step(t: &mut Table, e: Event) -> Reply
 
 // 1 Read, 2 Write, 3 Take, 4 Bring, 5 Drop.
 pub fn event(t: &mut Table, e: Event) -> Reply
-    ensures { (result ≡ (eventRule t.old e).reply) × (t.new ≡ (eventRule t.old e).after) }
+    ensures { (result ≡ (event_rule t.old e).reply) × (t.new ≡ (event_rule t.old e).after) }
 {
     if !sound(t) {
         return refused(9);

@@ -3,7 +3,7 @@
 use Rattle.std.specs.Prelude.{◌≡◌, refl, Bool, true, false, cond, List, [], ◌∷◌, ℕ, suc, ◌+◌, ◌-◌, ◌≤◌, ◌<◌, ltb, eqb, length, get_or, take, drop}
 use Rattle.std.proofs.Common.{ap, add-one, arith, length-drop, drop_of_length-le, drop-cons, lt-ltb, eq-eqb, ne_eqb}
 use Rattle.std.proofs.Math.Dec.{leb-suc-suc}
-use Rattle.text.specs.Line.{before, pieces, onFirst}
+use Rattle.text.specs.Line.{before, pieces, on_first}
 
 -- ---- the first b, as a loop finds it
 pub before_here : (b : ℕ) (l : List ℕ) (i : ℕ) → i < length l → get_or l i 0 ≡ b → length (before b (drop i l)) ≡ 0
@@ -54,11 +54,11 @@ rest b w l = cond (ltb (length w) (length l)) (pieces b (drop (suc (length w)) l
 
 pub pieces-first : (b : ℕ) (l : List ℕ)
     → pieces b l ≡ before b l ∷ cond (ltb (length (before b l)) (length l)) (pieces b (drop (suc (length (before b l))) l)) []
-unfolding before pieces onFirst
+unfolding before pieces on_first
 pieces-first b [] = refl
-pieces-first b (x ∷ xs) = go (eqb x b) (ap (onFirst x) (pieces-first b xs))
+pieces-first b (x ∷ xs) = go (eqb x b) (ap (on_first x) (pieces-first b xs))
   where
-    go : (d : Bool) → onFirst x (pieces b xs) ≡ (x ∷ before b xs) ∷ rest b (before b xs) xs
-        → cond d ([] ∷ pieces b xs) (onFirst x (pieces b xs)) ≡ cond d [] (x ∷ before b xs) ∷ rest b (cond d [] (x ∷ before b xs)) (x ∷ xs)
+    go : (d : Bool) → on_first x (pieces b xs) ≡ (x ∷ before b xs) ∷ rest b (before b xs) xs
+        → cond d ([] ∷ pieces b xs) (on_first x (pieces b xs)) ≡ cond d [] (x ∷ before b xs) ∷ rest b (cond d [] (x ∷ before b xs)) (x ∷ xs)
     go true e = rw (lt-ltb 0 (suc (length xs)) (omega arith))
     go false e = rw (leb-suc-suc (suc (length (before b xs))) (length xs)) e

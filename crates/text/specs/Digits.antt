@@ -3,10 +3,10 @@
 use Rattle.std.specs.Prelude.{◌≡◌, List, [], ◌∷◌, ◌++◌, ℕ, zero, suc, ◌+◌, ◌/◌, ◌%◌, ◌^◌, ◌≤◌, ◌<◌, length}
 use Rattle.std.proofs.Common.{ap, ◌∙◌, arith, length-append, lt-ltb, le-ltb}
 use Rattle.std.proofs.Math.Decide.{dec_lt}
-use Rattle.text.specs.Number.{largest, digitsWithin, decimal}
+use Rattle.text.specs.Number.{largest, digits_within, decimal}
 
-digits-enough : (j k n : ℕ) → n < j → n < k → digitsWithin j n ≡ digitsWithin k n
-unfolding digitsWithin
+digits-enough : (j k n : ℕ) → n < j → n < k → digits_within j n ≡ digits_within k n
+unfolding digits_within
 digits-enough zero k n h i = absurd (omega arith)
 digits-enough (suc j) zero n h i = absurd (omega arith)
 digits-enough (suc j) (suc k) n h i =
@@ -18,11 +18,11 @@ digits-enough (suc j) (suc k) n h i =
     ]
 
 pub decimal-one : (n : ℕ) → n < 10 → decimal n ≡ (48 + n) ∷ []
-unfolding decimal digitsWithin
+unfolding decimal digits_within
 decimal-one n h = let e : n % 10 ≡ n = omega arith in rw (lt-ltb n 10 h, e)
 
 pub decimal-more : (n : ℕ) → 10 ≤ n → decimal n ≡ decimal (n / 10) ++ (48 + n % 10) ∷ []
-unfolding decimal digitsWithin
+unfolding decimal digits_within
 decimal-more n h =
     rw (le-ltb n 10 h) (ap (λ (l : List ℕ). l ++ (48 + n % 10) ∷ []) (digits-enough n (suc (n / 10)) (n / 10) (omega arith) (omega arith)))
 

@@ -16,45 +16,45 @@ unfoldable pub before : ℕ → List ℕ → List ℕ
 before b [] = []
 before b (x ∷ xs) = cond (eqb x b) [] (x ∷ before b xs)
 
-unfoldable pub onFirst : ℕ → List (List ℕ) → List (List ℕ)
-onFirst x [] = []
-onFirst x (p ∷ ps) = (x ∷ p) ∷ ps
+unfoldable pub on_first : ℕ → List (List ℕ) → List (List ℕ)
+on_first x [] = []
+on_first x (p ∷ ps) = (x ∷ p) ∷ ps
 
 -- the pieces between the b's: always one more than there are b's
 unfoldable pub pieces : ℕ → List ℕ → List (List ℕ)
 pieces b [] = [] ∷ []
-pieces b (x ∷ xs) = cond (eqb x b) ([] ∷ pieces b xs) (onFirst x (pieces b xs))
+pieces b (x ∷ xs) = cond (eqb x b) ([] ∷ pieces b xs) (on_first x (pieces b xs))
 
-unfoldable pub withFirst : Option ℕ → Option (List ℕ) → Option (List ℕ)
-withFirst (some n) (some ns) = some (n ∷ ns)
-withFirst (some n) none = none
-withFirst none ns = none
+unfoldable pub with_first : Option ℕ → Option (List ℕ) → Option (List ℕ)
+with_first (some n) (some ns) = some (n ∷ ns)
+with_first (some n) none = none
+with_first none ns = none
 
-unfoldable pub allNumbers : List (List ℕ) → Option (List ℕ)
-allNumbers [] = some []
-allNumbers (w ∷ ws) = withFirst (number_of w) (allNumbers ws)
+unfoldable pub all_numbers : List (List ℕ) → Option (List ℕ)
+all_numbers [] = some []
+all_numbers (w ∷ ws) = with_first (number_of w) (all_numbers ws)
 
 -- "decimal numbers, one space between"
-unfoldable pub numbersOf : List ℕ → Option (List ℕ)
-numbersOf l = allNumbers (pieces space l)
+unfoldable pub numbers_of : List ℕ → Option (List ℕ)
+numbers_of l = all_numbers (pieces space l)
 
 -- "none longer than 400 bytes before LF"
-unfoldable pub lineNumbers : List ℕ → Option (List ℕ)
-lineNumbers l = cond (leb (length l) 400) (numbersOf l) none
+unfoldable pub line_numbers : List ℕ → Option (List ℕ)
+line_numbers l = cond (leb (length l) 400) (numbers_of l) none
 
 -- "each ended by LF": a text's first line, without its LF
-unfoldable pub firstLine : List ℕ → Option (List ℕ)
-firstLine text = given (ltb (length (before lf text)) (length text)) (before lf text)
+unfoldable pub first_line : List ℕ → Option (List ℕ)
+first_line text = given (ltb (length (before lf text)) (length text)) (before lf text)
 
 -- what stands behind the last LF is no line, and malformed unless it is empty
-unfoldable pub endedLines : List (List ℕ) → List (Option (List ℕ))
-endedLines [] = []
-endedLines (l ∷ []) = cond (eqb (length l) 0) [] (none ∷ [])
-endedLines (l ∷ m ∷ ms) = lineNumbers l ∷ endedLines (m ∷ ms)
+unfoldable pub ended_lines : List (List ℕ) → List (Option (List ℕ))
+ended_lines [] = []
+ended_lines (l ∷ []) = cond (eqb (length l) 0) [] (none ∷ [])
+ended_lines (l ∷ m ∷ ms) = line_numbers l ∷ ended_lines (m ∷ ms)
 
 -- the lines of a text: each one's numbers, or none where it is malformed
 unfoldable pub lines_of : List ℕ → List (Option (List ℕ))
-lines_of text = endedLines (pieces lf text)
+lines_of text = ended_lines (pieces lf text)
 
 -- ---- printing
 -- the pieces with one b between
@@ -70,9 +70,9 @@ unfoldable pub line_of : List ℕ → List ℕ
 line_of ns = spaced ns ++ lf ∷ []
 
 -- `bad line n`
-unfoldable pub badLine : ℕ → List ℕ
-badLine n = (98 ∷ 97 ∷ 100 ∷ 32 ∷ 108 ∷ 105 ∷ 110 ∷ 101 ∷ 32 ∷ []) ++ (decimal n ++ lf ∷ [])
+unfoldable pub bad_line : ℕ → List ℕ
+bad_line n = (98 ∷ 97 ∷ 100 ∷ 32 ∷ 108 ∷ 105 ∷ 110 ∷ 101 ∷ 32 ∷ []) ++ (decimal n ++ lf ∷ [])
 
 -- `too long`
-unfoldable pub tooLong : List ℕ
-tooLong = 116 ∷ 111 ∷ 111 ∷ 32 ∷ 108 ∷ 111 ∷ 110 ∷ 103 ∷ lf ∷ []
+unfoldable pub too_long : List ℕ
+too_long = 116 ∷ 111 ∷ 111 ∷ 32 ∷ 108 ∷ 111 ∷ 110 ∷ 103 ∷ lf ∷ []

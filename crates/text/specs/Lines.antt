@@ -8,27 +8,27 @@ use Rattle.std.proofs.Math.Decide.{dec_le, dec_lt}
 use Rattle.std.proofs.Math.ListN.{length, length-drop}
 use Rattle.std.proofs.lemmas.Bool.{lt-leb}
 use Rattle.text.specs.Number.{given, decimal}
-use Rattle.text.specs.Line.{lf, space, before, pieces, numbersOf, lineNumbers, endedLines, lines_of, joined, spaced}
+use Rattle.text.specs.Line.{lf, space, before, pieces, numbers_of, line_numbers, ended_lines, lines_of, joined, spaced}
 use Rattle.text.specs.Cut.{pieces-first}
 use Rattle.text.specs.OneText.{decimal-long}
 use Rattle.text.specs.OneLine.{read-line}
-use Rattle.text.specs.Reading.{asNumbers, noNumbers, followed, line_at}
+use Rattle.text.specs.Reading.{as_numbers, no_numbers, followed, line_at}
 use Rattle.text.specs.Row.{line-open, line-here}
 use Rattle.text.specs.Script.{first, others, having}
 
 -- ---- the lines of a text, by its first LF
 lines_none : (m : List ℕ) → length m ≡ 0 → lines_of m ≡ []
-unfolding lines_of endedLines pieces
+unfolding lines_of ended_lines pieces
 lines_none [] e = refl
 lines_none (x ∷ xs) e = absurd (omega arith)
 
 lines-open : (m : List ℕ) → 0 < length m → length m ≤ length (before lf m) → lines_of m ≡ none ∷ []
-unfolding lines_of endedLines
+unfolding lines_of ended_lines
 lines-open m h k = rw (pieces-first lf m, le-ltb (length (before lf m)) (length m) k, ne_eqb (length (before lf m)) 0 (λ e. omega arith))
 
 lines_more : (m : List ℕ) → length (before lf m) < length m
-    → lines_of m ≡ lineNumbers (before lf m) ∷ lines_of (drop (suc (length (before lf m))) m)
-unfolding lines_of endedLines
+    → lines_of m ≡ line_numbers (before lf m) ∷ lines_of (drop (suc (length (before lf m))) m)
+unfolding lines_of ended_lines
 lines_more m h =
     rw (pieces-first lf m, lt-ltb (length (before lf m)) (length m) h, pieces-first lf (drop (suc (length (before lf m))) m))
 
@@ -38,24 +38,24 @@ unfolding spaced joined
 spaced-long n [] = omega (arith, decimal-long n)
 spaced-long n (m ∷ ms) = omega (arith, decimal-long n, spaced-long m ms, length-append (decimal n) (space ∷ spaced (m ∷ ms)))
 
-short : (l ns : List ℕ) → lineNumbers l ≡ some ns → numbersOf l ≡ some ns
-unfolding lineNumbers
+short : (l ns : List ℕ) → line_numbers l ≡ some ns → numbers_of l ≡ some ns
+unfolding line_numbers
 short l ns = go (leb (length l) 400)
   where
-    go : (d : Bool) → cond d (numbersOf l) none ≡ some ns → numbersOf l ≡ some ns
+    go : (d : Bool) → cond d (numbers_of l) none ≡ some ns → numbers_of l ≡ some ns
     go true e = e
     go false e = cc
 
-long : (l ns : List ℕ) → lineNumbers l ≡ some ns → 2 * length ns ≤ length l + 1
+long : (l ns : List ℕ) → line_numbers l ≡ some ns → 2 * length ns ≤ length l + 1
 long l [] e = omega arith
 long l (n ∷ ns) e = omega (arith, spaced-long n ns, ap length (read-line l (n ∷ ns) (short l (n ∷ ns) e)).0)
 
 -- ---- what a count of numbers says of the numbers
-read_some : (o : Option (List ℕ)) (k : ℕ) → 0 < k → (asNumbers o).count ≡ k
-    → (o ≡ some (take k (asNumbers o).n))
-    × (length (take k (asNumbers o).n) ≡ k)
-    × (take k (asNumbers o).n ++ replicate (32 - k) 0 ≡ (asNumbers o).n)
-unfolding asNumbers noNumbers
+read_some : (o : Option (List ℕ)) (k : ℕ) → 0 < k → (as_numbers o).count ≡ k
+    → (o ≡ some (take k (as_numbers o).n))
+    × (length (take k (as_numbers o).n) ≡ k)
+    × (take k (as_numbers o).n ++ replicate (32 - k) 0 ≡ (as_numbers o).n)
+unfolding as_numbers no_numbers
 read_some none k h e = absurd (omega arith)
 read_some (some ns) k h e =
     elim (dec_le (length ns) 32) [
@@ -67,8 +67,8 @@ read_some (some ns) k h e =
       | no many ↦ (let z : 0 ≡ k = rw (lt-leb (length ns) 32 (omega arith)) at e in absurd (omega arith))
     ]
 
-read-other : (o : Option (List ℕ)) (k : ℕ) → k ≤ 32 → ((asNumbers o).count ≡ k → ⊥) → having k o ≡ none
-unfolding asNumbers having given
+read-other : (o : Option (List ℕ)) (k : ℕ) → k ≤ 32 → ((as_numbers o).count ≡ k → ⊥) → having k o ≡ none
+unfolding as_numbers having given
 read-other none k h ne = refl
 read-other (some ns) k h ne = rw (ne_eqb (length ns) k (λ e. ne (rw (le-leb (length ns) 32 (omega arith)) e)))
 
@@ -78,7 +78,7 @@ module _ (s : List ℕ) (at : ℕ) where
   line = before lf (drop at s)
 
   -- what it has if an LF ends it
-  lines-here : at + length line < length s → lines_of (drop at s) ≡ lineNumbers line ∷ lines_of (drop (at + length line + 1) s)
+  lines-here : at + length line < length s → lines_of (drop at s) ≡ line_numbers line ∷ lines_of (drop (at + length line + 1) s)
   lines-here h =
       lines_more (drop at s) (omega (arith, length-drop at s))
       ∙ (let e : at + length line + 1 ≡ at + suc (length line) = omega arith in rw (e, drop-drop (suc (length line)) at s))
@@ -106,17 +106,17 @@ module _ (s : List ℕ) (at : ℕ) where
   unfolding followed
   read_here k h e ends =
       let q = line-here s at ends in
-      let r = read_some (lineNumbers line) k h (rw q at e) in
+      let r = read_some (line_numbers line) k h (rw q at e) in
       record {
         lines = rw q (lines-here ends ∙ ap (λ (m : Option (List ℕ)). m ∷ lines_of (drop (at + length line + 1) s)) r.0);
         many = rw q r.1;
         padded = rw q r.2;
-        after = rw q (omega (arith, long line (take k (asNumbers (lineNumbers line)).n) r.0, r.1));
+        after = rw q (omega (arith, long line (take k (as_numbers (line_numbers line)).n) r.0, r.1));
         inside = rw q (omega arith);
       }
 
   pub line_read : (k : ℕ) → 0 < k → (line_at s at).count ≡ k → Read k
-  unfolding followed noNumbers
+  unfolding followed no_numbers
   line_read k h e =
       elim (dec_lt (at + length line) (length s)) [
         | yes ends ↦ read_here k h e ends
@@ -141,7 +141,7 @@ module _ (s : List ℕ) (at : ℕ) where
   unfolding followed first having
   line_other k h ne =
       elim (dec_lt (at + length line) (length s)) [
-        | yes ends ↦ rw (lines-here ends) (read-other (lineNumbers line) k h (λ e. ne (rw (line-here s at ends) e)))
+        | yes ends ↦ rw (lines-here ends) (read-other (line_numbers line) k h (λ e. ne (rw (line-here s at ends) e)))
         | no endless ↦ elim (dec_lt at (length s)) [
           | yes more ↦ rw (lines-open (drop at s) (omega (arith, length-drop at s)) (omega (arith, length-drop at s)))
           | no end ↦ rw (lines_end (omega arith))

@@ -11,11 +11,11 @@ use Rattle.std.proofs.Math.ListN.{length-append}
 use Rattle.std.proofs.Math.Seq.{drop-append_seam}
 use Rattle.std.proofs.lemmas.List.Edits.{sets-eq}
 use Rattle.theory_lists.specs.Test.{every, both, both_left, both_right}
-use Rattle.text.specs.Number.{largest, isDigit, number_of, decimal}
+use Rattle.text.specs.Number.{largest, is_digit, number_of, decimal}
 use Rattle.text.specs.Digits.{length-decimal}
-use Rattle.text.specs.Line.{space, lf, before, onFirst, pieces, withFirst, allNumbers, numbersOf, lineNumbers, joined, spaced, line_of, badLine}
+use Rattle.text.specs.Line.{space, lf, before, on_first, pieces, with_first, all_numbers, numbers_of, line_numbers, joined, spaced, line_of, bad_line}
 use Rattle.text.specs.Cut.{pieces-first}
-use Rattle.text.specs.Reading.{asNumbers, followed, line_at}
+use Rattle.text.specs.Reading.{as_numbers, followed, line_at}
 use Rattle.text.specs.Row.{line-short, line-here}
 use Rattle.text.specs.Printing.{Room, Put}
 use Rattle.text.specs.OneText.{decimal-digits, printed-number, read_number}
@@ -36,22 +36,22 @@ lacks-append b [] v = refl
 lacks-append b (x ∷ u) v =
     ap (λ (t : Bool). not (eqb x b) && t) (lacks-append b u v) ∙ sym (and_assoc (not (eqb x b)) (lacks b u) (lacks b v))
 
-digits-lack : (b : ℕ) → isDigit b ≡ false → (w : List ℕ) → every (map isDigit w) ≡ true → lacks b w ≡ true
+digits-lack : (b : ℕ) → is_digit b ≡ false → (w : List ℕ) → every (map is_digit w) ≡ true → lacks b w ≡ true
 unfolding lacks every
 digits-lack b no_digit [] e = refl
 digits-lack b no_digit (x ∷ xs) e =
-    both (ap not (ne_eqb x b (λ same. true≢false (sym (both_left (isDigit x) (every (map isDigit xs)) e) ∙ ap isDigit same ∙ no_digit))))
-    (digits-lack b no_digit xs (both_right (isDigit x) (every (map isDigit xs)) e))
+    both (ap not (ne_eqb x b (λ same. true≢false (sym (both_left (is_digit x) (every (map is_digit xs)) e) ∙ ap is_digit same ∙ no_digit))))
+    (digits-lack b no_digit xs (both_right (is_digit x) (every (map is_digit xs)) e))
 
-no-digit-space : isDigit space ≡ false
-unfolding isDigit
+no-digit-space : is_digit space ≡ false
+unfolding is_digit
 no-digit-space = refl
 
-no-digit-lf : isDigit lf ≡ false
-unfolding isDigit
+no-digit-lf : is_digit lf ≡ false
+unfolding is_digit
 no-digit-lf = refl
 
-lacks-decimal : (b : ℕ) → isDigit b ≡ false → (n : ℕ) → lacks b (decimal n) ≡ true
+lacks-decimal : (b : ℕ) → is_digit b ≡ false → (n : ℕ) → lacks b (decimal n) ≡ true
 lacks-decimal b no_digit n = digits-lack b no_digit (decimal n) (decimal-digits n)
 
 other : (x b : ℕ) (t : Bool) → (not (eqb x b) && t) ≡ true → eqb x b ≡ false
@@ -68,22 +68,22 @@ before-lacks b (x ∷ xs) r e =
     rw (other x b (lacks b xs) e) (ap (λ (l : List ℕ). x ∷ l) (before-lacks b xs r (both_right (not (eqb x b)) (lacks b xs) e)))
 
 pieces-one : (b : ℕ) (w : List ℕ) → lacks b w ≡ true → pieces b w ≡ w ∷ []
-unfolding pieces lacks onFirst
+unfolding pieces lacks on_first
 pieces-one b [] e = refl
 pieces-one b (x ∷ xs) e = rw (other x b (lacks b xs) e, pieces-one b xs (both_right (not (eqb x b)) (lacks b xs) e))
 
 pieces_more : (b : ℕ) (w r : List ℕ) → lacks b w ≡ true → pieces b (w ++ b ∷ r) ≡ w ∷ pieces b r
-unfolding pieces lacks onFirst
+unfolding pieces lacks on_first
 pieces_more b [] r e = rw (eq-eqb b b refl)
 pieces_more b (x ∷ xs) r e = rw (other x b (lacks b xs) e, pieces_more b xs r (both_right (not (eqb x b)) (lacks b xs) e))
 
 joined-pieces : (b : ℕ) (l : List ℕ) → joined b (pieces b l) ≡ l
-unfolding joined pieces onFirst
+unfolding joined pieces on_first
 joined-pieces b [] = refl
 joined-pieces b (x ∷ xs) = go (eqb x b) (pieces b xs) (eqb-true x b) (omega (arith, ap length (pieces-first b xs))) (joined-pieces b xs)
   where
     go : (d : Bool) (ps : List (List ℕ)) → (d ≡ true → x ≡ b) → 0 < length ps → joined b ps ≡ xs
-        → joined b (cond d ([] ∷ ps) (onFirst x ps)) ≡ x ∷ xs
+        → joined b (cond d ([] ∷ ps) (on_first x ps)) ≡ x ∷ xs
     go d [] same some-piece e = absurd (omega arith)
     go true (p ∷ ps) same some-piece e = ap₂ (λ (y : ℕ) (l : List ℕ). y ∷ l) (sym (same refl)) e
     go false (p ∷ []) same some-piece e = ap (λ (l : List ℕ). x ∷ l) e
@@ -97,24 +97,24 @@ pieces-spaced n (m ∷ ms) =
     pieces_more space (decimal n) (spaced (m ∷ ms)) (lacks-decimal space no-digit-space n)
     ∙ ap (λ (l : List (List ℕ)). decimal n ∷ l) (pieces-spaced m ms)
 
-all-printed : (ns : List ℕ) → Small ns → allNumbers (map decimal ns) ≡ some ns
-unfolding allNumbers withFirst
+all-printed : (ns : List ℕ) → Small ns → all_numbers (map decimal ns) ≡ some ns
+unfolding all_numbers with_first
 all-printed [] s = refl
 all-printed (n ∷ ns) s = rw (printed-number n s.0, all-printed ns s.1)
 
-pub printed-line : (n : ℕ) (ns : List ℕ) → Small (n ∷ ns) → numbersOf (spaced (n ∷ ns)) ≡ some (n ∷ ns)
-unfolding numbersOf
-printed-line n ns s = ap allNumbers (pieces-spaced n ns) ∙ all-printed (n ∷ ns) s
+pub printed-line : (n : ℕ) (ns : List ℕ) → Small (n ∷ ns) → numbers_of (spaced (n ∷ ns)) ≡ some (n ∷ ns)
+unfolding numbers_of
+printed-line n ns s = ap all_numbers (pieces-spaced n ns) ∙ all-printed (n ∷ ns) s
 
 -- ---- what was read is printed
-all_read : (ws : List (List ℕ)) (ns : List ℕ) → allNumbers ws ≡ some ns → (map decimal ns ≡ ws) × Small ns
-unfolding allNumbers withFirst
+all_read : (ws : List (List ℕ)) (ns : List ℕ) → all_numbers ws ≡ some ns → (map decimal ns ≡ ws) × Small ns
+unfolding all_numbers with_first
 all_read [] ns e = let f : ns ≡ [] = cc in rw f (refl, tt)
-all_read (w ∷ ws) ns e = go (number_of w) (allNumbers ws) refl refl (all_read ws) e
+all_read (w ∷ ws) ns e = go (number_of w) (all_numbers ws) refl refl (all_read ws) e
   where
-    go : (o : Option ℕ) (os : Option (List ℕ)) → number_of w ≡ o → allNumbers ws ≡ os
-        → ((ms : List ℕ) → allNumbers ws ≡ some ms → (map decimal ms ≡ ws) × Small ms)
-        → withFirst o os ≡ some ns → (map decimal ns ≡ w ∷ ws) × Small ns
+    go : (o : Option ℕ) (os : Option (List ℕ)) → number_of w ≡ o → all_numbers ws ≡ os
+        → ((ms : List ℕ) → all_numbers ws ≡ some ms → (map decimal ms ≡ ws) × Small ms)
+        → with_first o os ≡ some ns → (map decimal ns ≡ w ∷ ws) × Small ns
     go none os p q rest e = let z : ◌≡◌ {A = ℕ} 0 1 = cc in absurd (omega arith)
     go (some n) none p q rest e = let z : ◌≡◌ {A = ℕ} 0 1 = cc in absurd (omega arith)
     go (some n) (some ms) p q rest e =
@@ -123,8 +123,8 @@ all_read (w ∷ ws) ns e = go (number_of w) (allNumbers ws) refl refl (all_read 
         let t = rest ms q in
         rw f (ap₂ (λ (a : List ℕ) (l : List (List ℕ)). a ∷ l) r.0 t.0, (r.1, t.1))
 
-pub read-line : (l ns : List ℕ) → numbersOf l ≡ some ns → (spaced ns ≡ l) × Small ns
-unfolding numbersOf spaced
+pub read-line : (l ns : List ℕ) → numbers_of l ≡ some ns → (spaced ns ≡ l) × Small ns
+unfolding numbers_of spaced
 read-line l ns e = let r = all_read (pieces space l) ns e in (ap (joined space) r.0 ∙ joined-pieces space l, r.1)
 
 -- ---- how long a line is
@@ -138,8 +138,8 @@ pub length-line : (n : ℕ) (ns : List ℕ) → Small (n ∷ ns) → length (lin
 unfolding line_of
 length-line n ns s = omega (arith, length-append (spaced (n ∷ ns)) (lf ∷ []), length-spaced n ns s)
 
-pub length-bad-line : (n : ℕ) → n ≤ largest → length (badLine n) ≤ 20
-unfolding badLine
+pub length-bad-line : (n : ℕ) → n ≤ largest → length (bad_line n) ≤ 20
+unfolding bad_line
 length-bad-line n h = omega (arith, length-append (decimal n) (lf ∷ []), length-decimal n h)
 
 -- ---- where a line was printed it is read, and the next line starts where the printing ended
@@ -156,16 +156,16 @@ module _ (n : ℕ) (ns : List ℕ) (small : Small (n ∷ ns)) (few : length ns <
   unfolding line_of
   long = length-append text (lf ∷ [])
 
-  numbers : lineNumbers text ≡ some (n ∷ ns)
+  numbers : line_numbers text ≡ some (n ∷ ns)
   numbers = line-short text (omega (arith, length-spaced n ns small)) ∙ printed-line n ns small
 
   line-at : (front rest : List ℕ) → line_at (front ++ line_of (n ∷ ns) ++ rest) (length front)
-      ≡ followed (asNumbers (some (n ∷ ns))) (length front + length (line_of (n ∷ ns)))
+      ≡ followed (as_numbers (some (n ∷ ns))) (length front + length (line_of (n ∷ ns)))
   unfolding line_of
   line-at front rest =
       line-here all (length front)
       (omega (arith, shorter, length-append (front ++ (text ++ lf ∷ [])) rest, length-append front (text ++ lf ∷ []), long))
-      ∙ ap₂ followed (ap asNumbers (ap lineNumbers line ∙ numbers)) (omega (arith, shorter, long))
+      ∙ ap₂ followed (ap as_numbers (ap line_numbers line ∙ numbers)) (omega (arith, shorter, long))
     where
       all : List ℕ
       all = front ++ (text ++ lf ∷ []) ++ rest
@@ -183,7 +183,7 @@ module _ (n : ℕ) (ns : List ℕ) (small : Small (n ∷ ns)) (few : length ns <
       shorter = ap length line
 
   pub put-line-read : {old new : List ℕ} {at next : ℕ} → Room (line_of (n ∷ ns)) old at → Put (line_of (n ∷ ns)) old at new next
-      → line_at new at ≡ followed (asNumbers (some (n ∷ ns))) next
+      → line_at new at ≡ followed (as_numbers (some (n ∷ ns))) next
   put-line-read {old} {new} {at} {next} room p =
       let front : length (take at old) ≡ at = length-take-le at old (omega arith) in
       rw (p.bytes, p.after, sets-eq (line_of (n ∷ ns)) old at room)
@@ -193,5 +193,5 @@ module _ (n : ℕ) (ns : List ℕ) (small : Small (n ∷ ns)) (few : length ns <
 pub reply-read : (code value count : ℕ) {old new : List ℕ} {at next : ℕ} → Small (code ∷ value ∷ count ∷ [])
     → Room (line_of (code ∷ value ∷ count ∷ [])) old at → Put (line_of (code ∷ value ∷ count ∷ [])) old at new next
     → line_at new at ≡ record { count = 3; n = code ∷ value ∷ count ∷ replicate 29 0; next = next }
-unfolding followed asNumbers
+unfolding followed as_numbers
 reply-read code value count small room p = put-line-read code (value ∷ count ∷ []) small (omega arith) room p

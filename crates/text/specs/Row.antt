@@ -10,9 +10,9 @@ use Rattle.std.proofs.Math.ListN.{take, set, replicate, length-append, length-dr
 use Rattle.std.proofs.Math.Seq.{set_split, length-take-le, append_snoc}
 use borrow.Author.Tests.{lt-ltb, le-ltb, le-leb, lt-leb}
 use Rattle.text.specs.Number.{given, number_of}
-use Rattle.text.specs.Line.{space, lf, before, withFirst, allNumbers, numbersOf, lineNumbers, firstLine}
+use Rattle.text.specs.Line.{space, lf, before, with_first, all_numbers, numbers_of, line_numbers, first_line}
 use Rattle.text.specs.Cut.{pieces-first}
-use Rattle.text.specs.Reading.{as_number, asNumbers, noNumbers, followed, lineFound, line_at}
+use Rattle.text.specs.Reading.{as_number, as_numbers, no_numbers, followed, line_found, line_at}
 use Rattle.text.specs.declared.Number.TheVariants.{Is, No}
 
 unfoldable pub behind : List ℕ → Option (List ℕ) → Option (List ℕ)
@@ -41,57 +41,57 @@ found-no none e = refl
 found-no (some n) e = cc
 
 -- ---- the first number, and the rest
-pub numbers-none : (m : List ℕ) → number_of (before space m) ≡ none → numbersOf m ≡ none
-unfolding numbersOf allNumbers withFirst
+pub numbers-none : (m : List ℕ) → number_of (before space m) ≡ none → numbers_of m ≡ none
+unfolding numbers_of all_numbers with_first
 numbers-none m e = rw (pieces-first space m, e)
 
-numbers-last : (m : List ℕ) (v : ℕ) → number_of (before space m) ≡ some v → length m ≤ length (before space m) → numbersOf m ≡ some (v ∷ [])
-unfolding numbersOf allNumbers withFirst
+numbers-last : (m : List ℕ) (v : ℕ) → number_of (before space m) ≡ some v → length m ≤ length (before space m) → numbers_of m ≡ some (v ∷ [])
+unfolding numbers_of all_numbers with_first
 numbers-last m v e h = rw (pieces-first space m, e, le-ltb _ _ h)
 
 numbers_more : (m : List ℕ) (v : ℕ) → number_of (before space m) ≡ some v → length (before space m) < length m
-    → numbersOf m ≡ behind (v ∷ []) (numbersOf (drop (suc (length (before space m))) m))
-unfolding numbersOf allNumbers withFirst behind
-numbers_more m v e h = rw (pieces-first space m, e, lt-ltb _ _ h) (joined (numbersOf (drop (suc (length (before space m))) m)))
+    → numbers_of m ≡ behind (v ∷ []) (numbers_of (drop (suc (length (before space m))) m))
+unfolding numbers_of all_numbers with_first behind
+numbers_more m v e h = rw (pieces-first space m, e, lt-ltb _ _ h) (joined (numbers_of (drop (suc (length (before space m))) m)))
   where
-    joined : (o : Option (List ℕ)) → withFirst (some v) o ≡ behind (v ∷ []) o
+    joined : (o : Option (List ℕ)) → with_first (some v) o ≡ behind (v ∷ []) o
     joined none = refl
     joined (some ns) = refl
 
-numbers-some : (m ns : List ℕ) → numbersOf m ≡ some ns → 0 < length ns
-unfolding numbersOf allNumbers withFirst
+numbers-some : (m ns : List ℕ) → numbers_of m ≡ some ns → 0 < length ns
+unfolding numbers_of all_numbers with_first
 numbers-some m ns e = go (number_of (before space m)) _ ns (rw (pieces-first space m) at e)
   where
-    go : (o : Option ℕ) (os : Option (List ℕ)) (ns : List ℕ) → withFirst o os ≡ some ns → 0 < length ns
+    go : (o : Option ℕ) (os : Option (List ℕ)) (ns : List ℕ) → with_first o os ≡ some ns → 0 < length ns
     go none os ns e = let z : ◌≡◌ {A = ℕ} 0 1 = cc in omega arith
     go (some n) none ns e = let z : ◌≡◌ {A = ℕ} 0 1 = cc in omega arith
     go (some n) (some os) ns e = let f : (n ∷ os) ≡ ns = cc in omega (arith, ap length f)
 
 -- ---- a line of 400 bytes, and a longer one
-pub line-short : (l : List ℕ) → length l ≤ 400 → lineNumbers l ≡ numbersOf l
-unfolding lineNumbers
+pub line-short : (l : List ℕ) → length l ≤ 400 → line_numbers l ≡ numbers_of l
+unfolding line_numbers
 line-short l h = rw (le-leb (length l) 400 h)
 
-pub line-far : (l : List ℕ) → 400 < length l → lineNumbers l ≡ none
-unfolding lineNumbers
+pub line-far : (l : List ℕ) → 400 < length l → line_numbers l ≡ none
+unfolding line_numbers
 line-far l h = rw (lt-leb (length l) 400 h)
 
 -- ---- as the loop finds them: k numbers stand at the start of n, zeros behind them, and the rest of the line from `from` on
-module _ (l n : List ℕ) (from k : ℕ) (full : length n ≡ 32) (so_far : numbersOf l ≡ behind (take k n) (numbersOf (drop from l))) where
+module _ (l n : List ℕ) (from k : ℕ) (full : length n ≡ 32) (so_far : numbers_of l ≡ behind (take k n) (numbers_of (drop from l))) where
   abbrev here : List ℕ
   here = drop from l
 
-  pub row-none : number_of (before space here) ≡ none → numbersOf l ≡ none
+  pub row-none : number_of (before space here) ≡ none → numbers_of l ≡ none
   unfolding behind
   row-none e = so_far ∙ rw (numbers-none here e)
 
   module _ (v : ℕ) (inside : k < 32) (is : number_of (before space here) ≡ some v) where
     pub row-turn : from + length (before space here) < length l
-        → numbersOf l ≡ behind (take (k + 1) (set n k v)) (numbersOf (drop (from + length (before space here) + 1) l))
+        → numbers_of l ≡ behind (take (k + 1) (set n k v)) (numbers_of (drop (from + length (before space here) + 1) l))
     row-turn h =
         so_far
         ∙ ap (behind (take k n)) (numbers_more here v is (omega (arith, length-drop from l)))
-        ∙ behind-behind (take k n) (v ∷ []) (numbersOf (drop (suc (length (before space here))) here))
+        ∙ behind-behind (take k n) (v ∷ []) (numbers_of (drop (suc (length (before space here))) here))
         ∙ (let e : from + length (before space here) + 1 ≡ from + suc (length (before space here)) = omega arith in
         rw (e, add-one k, take-suc-set n k v (omega arith), drop-drop (suc (length (before space here))) from l))
 
@@ -105,8 +105,8 @@ module _ (l n : List ℕ) (from k : ℕ) (full : length n ≡ 32) (so_far : numb
       long : length (take k n ++ v ∷ []) ≡ k + 1
       long = length-append (take k n) (v ∷ []) ∙ ap (λ (x : ℕ). x + 1) (length-take-le k n (omega arith))
 
-      pub row_last : length l ≤ from + length (before space here) → record { count = k + 1; n = set n k v } ≡ asNumbers (numbersOf l)
-      unfolding behind asNumbers
+      pub row_last : length l ≤ from + length (before space here) → record { count = k + 1; n = set n k v } ≡ as_numbers (numbers_of l)
+      unfolding behind as_numbers
       row_last h =
           rw (so_far, numbers-last here v is (omega (arith, length-drop from l)), long, le-leb (k + 1) 32 (omega arith))
           (λ i. record { count = k + 1; n = row i })
@@ -114,11 +114,11 @@ module _ (l n : List ℕ) (from k : ℕ) (full : length n ≡ 32) (so_far : numb
           row : set n k v ≡ take k n ++ v ∷ [] ++ replicate (32 - (k + 1)) 0
           row = set_split n k v (omega arith) ∙ rw (add-one k, zeros-behind, append_snoc (take k n) v (replicate (32 - suc k) 0))
 
-  pub row-over : 32 ≤ k → k ≤ 32 → noNumbers ≡ asNumbers (numbersOf l)
-  unfolding behind asNumbers
-  row-over h h' = rw so_far (go (numbersOf here) refl)
+  pub row-over : 32 ≤ k → k ≤ 32 → no_numbers ≡ as_numbers (numbers_of l)
+  unfolding behind as_numbers
+  row-over h h' = rw so_far (go (numbers_of here) refl)
     where
-      go : (o : Option (List ℕ)) → numbersOf here ≡ o → noNumbers ≡ asNumbers (behind (take k n) o)
+      go : (o : Option (List ℕ)) → numbers_of here ≡ o → no_numbers ≡ as_numbers (behind (take k n) o)
       go none e = refl
       go (some ns) e =
           rw
@@ -131,10 +131,10 @@ module _ (s : List ℕ) (at : ℕ) where
   line = before lf (drop at s)
 
   -- no LF ends it
-  pub line-open : length s ≤ at + length line → line_at s at ≡ followed noNumbers 0
-  unfolding line_at lineFound firstLine given
+  pub line-open : length s ≤ at + length line → line_at s at ≡ followed no_numbers 0
+  unfolding line_at line_found first_line given
   line-open h = rw (le-ltb (length line) (length (drop at s)) (omega (arith, length-drop at s)))
 
-  pub line-here : at + length line < length s → line_at s at ≡ followed (asNumbers (lineNumbers line)) (at + length line + 1)
-  unfolding line_at lineFound firstLine given
+  pub line-here : at + length line < length s → line_at s at ≡ followed (as_numbers (line_numbers line)) (at + length line + 1)
+  unfolding line_at line_found first_line given
   line-here h = rw (lt-ltb (length line) (length (drop at s)) (omega (arith, length-drop at s)))

@@ -1,8 +1,8 @@
 // The script's text is read: lines of decimal numbers, one space between, each ended by LF. What is printed stands in `printing`.
 ghost use Rattle.std.specs.Prelude.{◌≡◌, ◌+◌, ◌≤◌, length, drop};
-ghost use Rattle.text.specs.Number.{startsWell, number_of};
-ghost use Rattle.text.specs.Line.{before, lineNumbers};
-ghost use Rattle.text.specs.Reading.{past, grownBy, capped, within, as_number, asNumbers, line_at};
+ghost use Rattle.text.specs.Number.{starts_well, number_of};
+ghost use Rattle.text.specs.Line.{before, line_numbers};
+ghost use Rattle.text.specs.Reading.{past, grown_by, capped, within, as_number, as_numbers, line_at};
 
 // One past the largest number. It stands for whatever is no number.
 const PAST: u64 = 4294967296;
@@ -58,7 +58,7 @@ pub fn read_line(s: &[u8], at: usize) -> Line
 
 // The numbers of a whole line, given without its LF.
 fn read_numbers(l: &[u8]) -> Numbers
-    ensures { result ≡ asNumbers (lineNumbers l.now) }
+    ensures { result ≡ as_numbers (line_numbers l.now) }
 {
     if 400 < l.len() {
         return NO_NUMBERS;
@@ -106,7 +106,7 @@ fn read_number(w: &[u8]) -> Number
 
 // Whether w has a byte, and no leading zero.
 fn starts_well(w: &[u8]) -> bool
-    ensures { result ≡ startsWell w.now }
+    ensures { result ≡ starts_well w.now }
 {
     if w.len() == 0 {
         return false;
@@ -131,7 +131,7 @@ fn value(w: &[u8]) -> u64
 // The value with one digit more behind it, up to PAST.
 fn grown(v: u64, b: u8) -> u64
     requires { v ≤ past }
-    ensures { result ≡ grownBy v b }
+    ensures { result ≡ grown_by v b }
 {
     if b < b'0' {
         return PAST;

@@ -2,7 +2,7 @@
 // buffer has room for all that an input can answer, so a refusal would never be seen.
 ghost use Rattle.std.specs.Prelude.{◌∷◌, []};
 ghost use Rattle.text.specs.Number.{decimal};
-ghost use Rattle.text.specs.Line.{line_of, badLine, tooLong};
+ghost use Rattle.text.specs.Line.{line_of, bad_line, too_long};
 ghost use Rattle.text.specs.Printing.{Room, Put, ended};
 
 // A reply's line. Answers the place after it, as all functions here do.
@@ -24,16 +24,16 @@ pub fn put_single(n: u32, out: &mut [u8], at: usize) -> usize
 }
 
 pub fn put_bad_line(n: u32, out: &mut [u8], at: usize) -> usize
-    requires { Room (badLine n) out.old at }
-    ensures { Put (badLine n) out.old at out.new result }
+    requires { Room (bad_line n) out.old at }
+    ensures { Put (bad_line n) out.old at out.new result }
 {
     let i = put_bytes(b"bad line ", out, at);
     put_ended(n, b'\n', out, i)
 }
 
 pub fn put_too_long(out: &mut [u8], at: usize) -> usize
-    requires { Room tooLong out.old at }
-    ensures { Put tooLong out.old at out.new result }
+    requires { Room too_long out.old at }
+    ensures { Put too_long out.old at out.new result }
 {
     put_bytes(b"too long\n", out, at)
 }

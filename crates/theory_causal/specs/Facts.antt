@@ -16,9 +16,9 @@ abbrev pub zeros : Clock
 zeros j = 0
 
 -- ---- of a source: its stamp, by the clocks of the operations
-unfoldable pub stampOf : (know : ℕ → Clock) → Source → Clock
-stampOf know blank = zeros
-stampOf know (from w) = know w
+unfoldable pub stamp_of : (know : ℕ → Clock) → Source → Clock
+stamp_of know blank = zeros
+stamp_of know (from w) = know w
 
 -- a write that the cell's keeper stored after it
 unfoldable pub After : Source → ℕ → Type 0
@@ -55,7 +55,7 @@ module _ {W : Words} (H : History W) (know : ℕ → Clock) where
   -- What has to be known of a read, and of each operation beside those before it.
   pub record Came (x : ℕ) : Type 0 where
     pub stored : Stored H x (H x).cell (H x).source
-    pub seen : stampOf know (H x).source ≼ know x
+    pub seen : stamp_of know (H x).source ≼ know x
     pub fresh : Fresh x (H x).cell (H x).source (know x)
     pub word : (H x).word ≡ word_of H (H x).source
 

@@ -3,7 +3,7 @@
 -- Assumes nothing.
 use Rattle.std.specs.Prelude.{◌≡◌, Bool, false, ◌≢◌, ℕ, suc, ◌≤◌, ◌<◌}
 use Rattle.theory_causal.specs.History.{Words, write, History, Operation, Writes, word_of}
-use Rattle.theory_causal.specs.Facts.{Clock, ◌≼◌, Closed, stampOf, Stored, After, Fresh, Told}
+use Rattle.theory_causal.specs.Facts.{Clock, ◌≼◌, Closed, stamp_of, Stored, After, Fresh, Told}
 use Rattle.theory_causal.specs.Machine.{Held, Cell, held, Slot, empty, read_asked, write-asked, read-answered, write-answered, Desk, State}
 pub mod Learned
 pub mod Passing
@@ -30,7 +30,7 @@ module _ {W : Words} (M : Moment W) where
   -- word and stamp are those of the source
   pub record Genuine (c : ℕ) (g : Held W) : Type 0 where
     pub stored : Stored H t c g.source
-    pub stamp : g.stamp ≡ stampOf know g.source
+    pub stamp : g.stamp ≡ stamp_of know g.source
     pub word : g.word ≡ word_of H g.source
 
   -- I2: what stands last in a cell

@@ -10,8 +10,8 @@ use Rattle.std.proofs.Math.Decide.{dec_le, dec_lt, ℕ_discrete}
 use Rattle.theory_causal.specs.History.{Words, Kind, quiet, write, read, Kind-discrete, Source, blank, from, History, Operation, Writes}
 use Rattle.theory_causal.specs.History.{ReadBy, Causal, same-desk, shown, chain}
 use Rattle.theory_causal.specs.Demand.{Before, View, Nearest, Explains, InTurn, Order}
-use Rattle.theory_causal.specs.Ranking.{inOrder, listed-before, listed-order}
-use Rattle.theory_causal.specs.Facts.{Clock, ◌≼◌, Knows, stampOf, Stored, After, Told, known, writing, reading}
+use Rattle.theory_causal.specs.Ranking.{in_order, listed-before, listed-order}
+use Rattle.theory_causal.specs.Facts.{Clock, ◌≼◌, Knows, stamp_of, Stored, After, Told, known, writing, reading}
 
 -- ---- the first number below n that passes a test, or n
 record First (P : ℕ → Type 0) (n m : ℕ) : Type 0 where
@@ -68,11 +68,11 @@ module _ {W : Words} (H : History W) (know : ℕ → Clock) (n : ℕ)
       ]
 
   source_of : (x : ℕ) → (H x).kind ≡ read → (w : ℕ) → (H x).source ≡ from w → (w < x) × Writes H (H x).cell w × (know w ≼ know x)
-  unfolding Stored stampOf
+  unfolding Stored stamp_of
   source_of x r w e =
       let came = (told x (reading H r)).came r in
       let stored : Stored H x (H x).cell (from w) = rw e at came.stored in
-      let seen : stampOf know (from w) ≼ know x = rw e at came.seen in
+      let seen : stamp_of know (from w) ≼ know x = rw e at came.seen in
       (stored.0, stored.1, seen)
 
   goes-up : {x y : ℕ} → Causal H x y → Up x y
@@ -103,23 +103,23 @@ module _ {W : Words} (H : History W) (know : ℕ → Clock) (n : ℕ)
         go (no q) (yes d) (no k) = no (λ h. k h.2)
         go (no q) (yes d) (yes k) = yes (q, d, k)
 
-    leadOf : Kind → ℕ → ℕ
-    leadOf quiet x = x
-    leadOf read x = x
-    leadOf write x = (first (hears? x) n).0
+    lead_of : Kind → ℕ → ℕ
+    lead_of quiet x = x
+    lead_of read x = x
+    lead_of write x = (first (hears? x) n).0
 
     lead : ℕ → ℕ
-    lead x = leadOf (H x).kind x
+    lead x = lead_of (H x).kind x
 
     rank : ℕ → ℕ
     rank x = lead x * suc n + x
 
     lead-read : (x : ℕ) → (H x).kind ≡ read → lead x ≡ x
-    unfolding lead leadOf
+    unfolding lead lead_of
     lead-read x r = rw r
 
     lead-write : (w : ℕ) → (H w).kind ≡ write → First (Hears w) n (lead w)
-    unfolding lead leadOf
+    unfolding lead lead_of
     lead-write w k = rw k (first (hears? w) n).1
 
     rank-lead : (x y : ℕ) → x < n → lead x < lead y → rank x < rank y
@@ -234,7 +234,7 @@ module _ {W : Words} (H : History W) (know : ℕ → Clock) (n : ℕ)
 
     pub ordered : (l : List ℕ) × Order H p l × InTurn H (λ v w. Before v w l)
     ordered = (
-      inOrder H p n rank,
+      in_order H p n rank,
       listed-order H p n rank inside differ explained,
       λ c v w i k lt. listed-before H p n rank inside differ v w (inl i.0) (inl k.0) (in-turn c v w i k lt),
     )

@@ -126,20 +126,20 @@ module _ {W : Words} (H : History W) (p n : ℕ) (rank : ℕ → ℕ) where
       go (no w) (yes r) (no d) = no (⊎_elim w (λ h. d h.1))
       go (no w) (no r) d = no (⊎_elim w (λ h. r h.0))
 
-  pub inOrder : List ℕ
-  inOrder = sorted rank view? n
+  pub in_order : List ℕ
+  in_order = sorted rank view? n
 
   module _ (bound : (x : ℕ) → View H p x → x < n) (apart : (x y : ℕ) → View H p x → View H p y → rank x ≡ rank y → x ≡ y) where
-    pub listed-before : (x y : ℕ) → View H p x → View H p y → rank x < rank y → Before x y inOrder
-    unfolding inOrder
+    pub listed-before : (x y : ℕ) → View H p x → View H p y → rank x < rank y → Before x y in_order
+    unfolding in_order
     listed-before x y v u =
         stands-before rank view? apart n x y (in-sorted rank view? n x (bound x v) v) (in-sorted rank view? n y (bound y u) u)
 
-    back : (x y : ℕ) → Before x y inOrder → rank x < rank y
-    unfolding inOrder
+    back : (x y : ℕ) → Before x y in_order → rank x < rank y
+    unfolding in_order
     back = rank_rises rank view? apart n
 
-    near : (s : Source) (c x : ℕ) → ReadBy H p x → Nearest H (λ v w. rank v < rank w) c x s → Nearest H (λ v w. Before v w inOrder) c x s
+    near : (s : Source) (c x : ℕ) → ReadBy H p x → Nearest H (λ v w. rank v < rank w) c x s → Nearest H (λ v w. Before v w in_order) c x s
     unfolding Nearest
     near blank c x r m = λ w h b. m w h (back w x b)
     near (from w) c x r m =
@@ -149,8 +149,8 @@ module _ {W : Words} (H : History W) (p n : ℕ) (rank : ℕ → ℕ) where
           λ u h b. ⊎_elim inl (λ k. inr (listed-before u w (inl h.0) v k)) (m.2 u h (back u x b)),
         )
 
-    pub listed-order : Explains H (λ x y. rank x < rank y) p → Order H p inOrder
-    unfolding inOrder
+    pub listed-order : Explains H (λ x y. rank x < rank y) p → Order H p in_order
+    unfolding in_order
     listed-order e = record {
       seen = λ x v. in-sorted rank view? n x (bound x v) v;
       only = λ x m. (sorted-from rank view? n x m).1;

@@ -10,7 +10,7 @@ use Rattle.std.proofs.Math.Seq.{get_or-append_seam}
 use Rattle.theory_causal.specs.Changed.{changed, changed-here, changed-elsewhere}
 use Rattle.theory_causal.specs.History.{Words, Step, History, nothing, listed, Operation, word_of}
 use Rattle.theory_causal.specs.Demand.{Before, InTurn, Order}
-use Rattle.theory_causal.specs.Facts.{Clock, zeros, stampOf, Stored}
+use Rattle.theory_causal.specs.Facts.{Clock, zeros, stamp_of, Stored}
 use Rattle.theory_causal.specs.Knowledge.{ordered}
 use Rattle.theory_causal.specs.Machine.{Held, State, unwritten, Start, Run, start, next}
 use Rattle.theory_causal.specs.Invariants.{Moment, Genuine, Good, Level, Slotted, Fine, Inv}
@@ -36,7 +36,7 @@ module _ {W : Words} (H : History W) (K : ℕ → Clock) (S : State W) (s : Star
   good_start = record { closed = λ w lt. absurd (omega arith); below = λ j. omega arith }
 
   genuine-start : (c : ℕ) {g : Held W} → g ≡ unwritten → Genuine first c g
-  unfolding Stored stampOf word_of
+  unfolding Stored stamp_of word_of
   genuine-start c e = subst (Genuine first c) (sym e) (record { stored = tt; stamp = refl; word = refl })
 
   fine-start : (p : ℕ) → Fine first p (S.desks p)

@@ -2,21 +2,21 @@
 -- case has both, and each number is also given alone; so neither an order nor a line can change unnoticed.
 -- Assumes nothing.
 use Rattle.std.specs.Prelude.{◌≡◌, refl, List, [], ◌∷◌, map, ℕ, replicate}
-use Rattle.clock.specs.Clock.{isWithin}
+use Rattle.clock.specs.Clock.{is_within}
 use Rattle.desk.specs.declared.Event.{Event}
 use Rattle.desk.specs.declared.Plan.{Plan}
 use Rattle.desk.specs.declared.Record.{Record}
-use Rattle.desk.specs.Desk.{isNoWord, isBlank, noMessage, keeps, waits, isAsked, isAnswered, isOwn}
-use Rattle.desk.specs.Rules.{withClock, seatLines, eventLines, eventRefusal, inTray, requestFits, serveLines, serveRefusal, answerFits, bringLines, bringRefusal}
-use Rattle.desk.specs.Sound.{countsSound, placeSound, traySound, wordFits, sentFits, cellFits, cellSound, slotNames, slotCarries, slotSound, seatSound, cellsSound, isSound}
-use Rattle.desk.specs.Start.{keepersRight, setUpLines, setUpRefusal, startLines, startRefusal}
+use Rattle.desk.specs.Desk.{is_no_word, is_blank, no_message, keeps, waits, is_asked, is_answered, is_own}
+use Rattle.desk.specs.Rules.{with_clock, seat_lines, event_lines, event_refusal, in_tray, request_fits, serve_lines, serve_refusal, answer_fits, bring_lines, bring_refusal}
+use Rattle.desk.specs.Sound.{counts_sound, place_sound, tray_sound, word_fits, sent_fits, cell_fits, cell_sound, slot_names, slot_carries, slot_sound, seat_sound, cells_sound, is_sound}
+use Rattle.desk.specs.Start.{keepers_right, set_up_lines, set_up_refusal, start_lines, start_refusal}
 use Rattle.table.specs.declared.Table.{Table}
-use Rattle.table.specs.Changes.{withSeatOf}
+use Rattle.table.specs.Changes.{with_seat_of}
 use Rattle.table.specs.Rules.{lines, refusal}
-use Rattle.table.specs.SetUp.{freshTable}
-use Rattle.table.specs.Sound.{entrySound, cellsSound as allCellsSound, seatsSound, tableSound}
-use Rattle.table.specs.Table.{seatOf, recordOf}
-use Rattle.theory_lists.specs.Each.{mapAt}
+use Rattle.table.specs.SetUp.{fresh_table}
+use Rattle.table.specs.Sound.{entry_sound, cells_sound as all_cells_sound, seats_sound, table_sound}
+use Rattle.table.specs.Table.{seat_of, record_of}
+use Rattle.theory_lists.specs.Each.{map_at}
 use Rattle.theory_lists.specs.Test.{every}
 use Rattle.theory_refusals.specs.Refusals.{first_of}
 use Rattle.theory_edges.specs.Broken.{right, fresh}
@@ -27,11 +27,11 @@ event k p c = record { kind = k; desk = p; cell = c; word = 7 }
 
 -- of the sound table: six desks, three cells, kept by desks 0, 1 and 0; desk 0 is idle, desk 1 waits
 abbrev at : (desk : ℕ) → Record
-at p = recordOf right p
+at p = record_of right p
 
 -- a desk whose own number cannot be raised
 abbrev full : (desk : ℕ) → Table
-full p = withSeatOf right p (withClock (seatOf right p) (clock (4294967295 ∷ 4294967295 ∷ [])))
+full p = with_seat_of right p (with_clock (seat_of right p) (clock (4294967295 ∷ 4294967295 ∷ [])))
 
 abbrev unsound : Table
 unsound = fresh 1 0
@@ -59,35 +59,35 @@ given =
     ∷ (refusal (full 0) (event 2 0 1), 16)
     ∷ (refusal right (event 2 0 1), 0)
     -- a desk's event: 9, 8, 11, 12, 14, 16
-    ∷ (eventRefusal (recordOf unsound 0) (event 3 0 1), 9)
-    ∷ (eventRefusal (at 0) (event 3 0 3), 8)
-    ∷ (eventRefusal (at 0) (event 4 0 0), 8)
-    ∷ (eventRefusal (at 1) (event 1 0 3), 11)
-    ∷ (eventRefusal (at 1) (event 5 0 1), 12)
-    ∷ (eventRefusal (at 0) (event 5 0 2), 14)
-    ∷ (eventRefusal (recordOf (full 0) 0) (event 2 0 1), 16)
-    ∷ (eventRefusal (at 0) (event 5 0 1), 0)
+    ∷ (event_refusal (record_of unsound 0) (event 3 0 1), 9)
+    ∷ (event_refusal (at 0) (event 3 0 3), 8)
+    ∷ (event_refusal (at 0) (event 4 0 0), 8)
+    ∷ (event_refusal (at 1) (event 1 0 3), 11)
+    ∷ (event_refusal (at 1) (event 5 0 1), 12)
+    ∷ (event_refusal (at 0) (event 5 0 2), 14)
+    ∷ (event_refusal (record_of (full 0) 0) (event 2 0 1), 16)
+    ∷ (event_refusal (at 0) (event 5 0 1), 0)
     -- its serve and its bring: 9, 13, 15
-    ∷ (serveRefusal (recordOf unsound 0) noMessage, 9)
-    ∷ (serveRefusal (at 0) noMessage, 15)
-    ∷ (bringRefusal (recordOf unsound 0) noMessage, 9)
-    ∷ (bringRefusal (at 0) noMessage, 13)
-    ∷ (bringRefusal (at 1) noMessage, 15)
+    ∷ (serve_refusal (record_of unsound 0) no_message, 9)
+    ∷ (serve_refusal (at 0) no_message, 15)
+    ∷ (bring_refusal (record_of unsound 0) no_message, 9)
+    ∷ (bring_refusal (at 0) no_message, 13)
+    ∷ (bring_refusal (at 1) no_message, 15)
     -- set-up: 20, 21, 22; and start: then 10
-    ∷ (setUpRefusal (plan 0 0 9), 20)
-    ∷ (setUpRefusal (plan 9 33 9), 20)
-    ∷ (setUpRefusal (plan 1 0 1), 21)
-    ∷ (setUpRefusal (plan 8 33 8), 21)
-    ∷ (setUpRefusal (plan 1 1 1), 22)
-    ∷ (setUpRefusal (plan 8 32 7), 0)
-    ∷ (startRefusal (plan 0 0 9) 0, 20)
-    ∷ (startRefusal (plan 1 1 1) 1, 22)
-    ∷ (startRefusal (plan 1 1 0) 1, 10)
-    ∷ (startRefusal (plan 8 32 7) 7, 0)
+    ∷ (set_up_refusal (plan 0 0 9), 20)
+    ∷ (set_up_refusal (plan 9 33 9), 20)
+    ∷ (set_up_refusal (plan 1 0 1), 21)
+    ∷ (set_up_refusal (plan 8 33 8), 21)
+    ∷ (set_up_refusal (plan 1 1 1), 22)
+    ∷ (set_up_refusal (plan 8 32 7), 0)
+    ∷ (start_refusal (plan 0 0 9) 0, 20)
+    ∷ (start_refusal (plan 1 1 1) 1, 22)
+    ∷ (start_refusal (plan 1 1 0) 1, 10)
+    ∷ (start_refusal (plan 8 32 7) 7, 0)
     ∷ []
 
 pub in_order : map (λ (x : ℕ × ℕ). x.0) given ≡ map (λ (x : ℕ × ℕ). x.1) given
-unfolding given first_of refusal lines seatLines eventLines inTray requestFits serveLines answerFits bringLines keepersRight setUpLines setUpRefusal startLines
-    startRefusal isOwn isAsked isAnswered every mapAt freshTable recordOf keeps waits isNoWord isBlank isWithin countsSound placeSound traySound wordFits sentFits cellFits
-    cellSound slotNames slotCarries slotSound seatSound cellsSound isSound entrySound allCellsSound seatsSound tableSound
+unfolding given first_of refusal lines seat_lines event_lines in_tray request_fits serve_lines answer_fits bring_lines keepers_right set_up_lines set_up_refusal start_lines
+    start_refusal is_own is_asked is_answered every map_at fresh_table record_of keeps waits is_no_word is_blank is_within counts_sound place_sound tray_sound word_fits sent_fits cell_fits
+    cell_sound slot_names slot_carries slot_sound seat_sound cells_sound is_sound entry_sound all_cells_sound seats_sound table_sound
 in_order = refl

@@ -7,9 +7,9 @@ use Rattle.desk.specs.declared.Cell.{Cell}
 use Rattle.desk.specs.declared.Event.{Event}
 use Rattle.desk.specs.declared.Plan.{Plan}
 use Rattle.desk.specs.declared.Reply.{Reply}
-use Rattle.desk.specs.Desk.{Word, noCell, heldCell}
-use Rattle.table.specs.Rules.{eventRule}
-use Rattle.table.specs.Table.{seatOf, recordOf}
+use Rattle.desk.specs.Desk.{Word, no_cell, held_cell}
+use Rattle.table.specs.Rules.{event_rule}
+use Rattle.table.specs.Table.{seat_of, record_of}
 use Rattle.theory_promise.specs.Operations.{Account}
 use Rattle.theory_promise.specs.Played.{event, reply, plan, played}
 use Rattle.theory_edges.specs.Edges.{clock}
@@ -37,18 +37,18 @@ pub record Run : Type 0 where
 
 unfoldable pub ran : Run → Account
 unfolding played
-ran r = played eventRule r.start (map (λ (x : Event × Reply). x.0) r.turns)
+ran r = played event_rule r.start (map (λ (x : Event × Reply). x.0) r.turns)
 
 -- the rules reply so
 abbrev Replied : Run → Type 0
 Replied r = (ran r).replies ≡ map (λ (x : Event × Reply). x.1) r.turns
 
 -- after the run, desk p's cells and its clock
-abbrev cellsAfter : Run → (desk : ℕ) → List Cell
-cellsAfter r p = first r.start.cells (recordOf (ran r).table p).row
+abbrev cells_after : Run → (desk : ℕ) → List Cell
+cells_after r p = first r.start.cells (record_of (ran r).table p).row
 
-abbrev clockAfter : Run → (desk : ℕ) → Clock
-clockAfter r p = (seatOf (ran r).table p).clock
+abbrev clock_after : Run → (desk : ℕ) → Clock
+clock_after r p = (seat_of (ran r).table p).clock
 
 -- A copy that is only beside the stamp of a bring, or beside the sent clock of a take, stays; the one strictly before it goes.
 -- Rules out: dropping what is beside; dropping every copy at a bring or a take.
@@ -76,7 +76,7 @@ beside =
     }
 
 pub beside-run : Replied beside
-    × (cellsAfter beside 2 ≡ noCell ∷ heldCell 2 (clock (0 ∷ 1 ∷ [])) ∷ heldCell 3 (clock (2 ∷ 1 ∷ [])) ∷ [])
+    × (cells_after beside 2 ≡ no_cell ∷ held_cell 2 (clock (0 ∷ 1 ∷ [])) ∷ held_cell 3 (clock (2 ∷ 1 ∷ [])) ∷ [])
 unfolding ran beside
 beside-run = (refl, refl)
 
@@ -135,8 +135,8 @@ sent =
     }
 
 pub sent-run : Replied sent
-    × (cellsAfter sent 0 ≡ heldCell 7 (clock (1 ∷ 1 ∷ [])) ∷ heldCell 5 (clock (0 ∷ 1 ∷ [])) ∷ heldCell 8 (clock (1 ∷ 1 ∷ 1 ∷ [])) ∷ [])
-    × (cellsAfter sent 2 ≡ noCell ∷ noCell ∷ heldCell 8 (clock (1 ∷ 1 ∷ 1 ∷ [])) ∷ [])
+    × (cells_after sent 0 ≡ held_cell 7 (clock (1 ∷ 1 ∷ [])) ∷ held_cell 5 (clock (0 ∷ 1 ∷ [])) ∷ held_cell 8 (clock (1 ∷ 1 ∷ 1 ∷ [])) ∷ [])
+    × (cells_after sent 2 ≡ no_cell ∷ no_cell ∷ held_cell 8 (clock (1 ∷ 1 ∷ 1 ∷ [])) ∷ [])
 unfolding ran sent
 sent-run = (refl, refl, refl)
 
@@ -165,8 +165,8 @@ stamped =
     }
 
 pub stamped-run : Replied stamped
-    × (cellsAfter stamped 1 ≡ heldCell 5 (clock (2 ∷ [])) ∷ heldCell 6 (clock (1 ∷ [])) ∷ heldCell 4 (clock (0 ∷ 1 ∷ [])) ∷ [])
-    × (clockAfter stamped 1 ≡ clock (2 ∷ 1 ∷ []))
+    × (cells_after stamped 1 ≡ held_cell 5 (clock (2 ∷ [])) ∷ held_cell 6 (clock (1 ∷ [])) ∷ held_cell 4 (clock (0 ∷ 1 ∷ [])) ∷ [])
+    × (clock_after stamped 1 ≡ clock (2 ∷ 1 ∷ []))
 unfolding ran stamped
 stamped-run = (refl, refl, refl)
 
@@ -200,7 +200,7 @@ served =
     }
 
 pub served-run : Replied served
-    × (cellsAfter served 1 ≡ heldCell 42 (clock (0 ∷ 2 ∷ [])) ∷ heldCell 33 (clock (1 ∷ 1 ∷ [])) ∷ [])
+    × (cells_after served 1 ≡ held_cell 42 (clock (0 ∷ 2 ∷ [])) ∷ held_cell 33 (clock (1 ∷ 1 ∷ [])) ∷ [])
 unfolding ran served
 served-run = (refl, refl)
 

@@ -13,27 +13,27 @@ module _ {A B : Type 0} where
   pub length-mapped : (f : A → B) (l : List A) (n : ℕ) → length (map f l) ≡ n → length l ≡ n
   length-mapped f l n e = sym (length-map l f) ∙ e
 
-  unfoldable pub mapAt : (ℕ → A → B) → List A → List B
-  mapAt f [] = []
-  mapAt f (x ∷ xs) = f 0 x ∷ mapAt (λ k. f (suc k)) xs
+  unfoldable pub map_at : (ℕ → A → B) → List A → List B
+  map_at f [] = []
+  map_at f (x ∷ xs) = f 0 x ∷ map_at (λ k. f (suc k)) xs
 
-  pub length-mapAt : (f : ℕ → A → B) (l : List A) → length (mapAt f l) ≡ length l
-  unfolding mapAt
-  length-mapAt f [] = refl
-  length-mapAt f (x ∷ xs) = ap suc (length-mapAt (λ k. f (suc k)) xs)
+  pub length-map_at : (f : ℕ → A → B) (l : List A) → length (map_at f l) ≡ length l
+  unfolding map_at
+  length-map_at f [] = refl
+  length-map_at f (x ∷ xs) = ap suc (length-map_at (λ k. f (suc k)) xs)
 
-  pub getD-mapAt : (f : ℕ → A → B) (l : List A) (k : ℕ) (d : A) (e : B) → k < length l → get_or (mapAt f l) k e ≡ f k (get_or l k d)
-  unfolding mapAt
-  getD-mapAt f [] k d e h = absurd (not-suc-le-zero h)
-  getD-mapAt f (x ∷ xs) zero d e h = refl
-  getD-mapAt f (x ∷ xs) (suc k) d e h = getD-mapAt (λ j. f (suc j)) xs k d e (le_of_suc-le-suc h)
+  pub get_or-map_at : (f : ℕ → A → B) (l : List A) (k : ℕ) (d : A) (e : B) → k < length l → get_or (map_at f l) k e ≡ f k (get_or l k d)
+  unfolding map_at
+  get_or-map_at f [] k d e h = absurd (not-suc-le-zero h)
+  get_or-map_at f (x ∷ xs) zero d e h = refl
+  get_or-map_at f (x ∷ xs) (suc k) d e h = get_or-map_at (λ j. f (suc j)) xs k d e (le_of_suc-le-suc h)
 
   -- two functions that agree at each place
-  pub mapAt-same : (f g : ℕ → A → B) (l : List A) (d : A) → ((k : ℕ) → k < length l → f k (get_or l k d) ≡ g k (get_or l k d))
-      → mapAt f l ≡ mapAt g l
-  unfolding mapAt
-  mapAt-same f g [] d p = refl
-  mapAt-same f g (x ∷ xs) d p = ap₂ ◌∷◌ (p 0 (omega arith)) (mapAt-same (λ k. f (suc k)) (λ k. g (suc k)) xs d (λ k h. p (suc k) (omega arith)))
+  pub map_at-same : (f g : ℕ → A → B) (l : List A) (d : A) → ((k : ℕ) → k < length l → f k (get_or l k d) ≡ g k (get_or l k d))
+      → map_at f l ≡ map_at g l
+  unfolding map_at
+  map_at-same f g [] d p = refl
+  map_at-same f g (x ∷ xs) d p = ap₂ ◌∷◌ (p 0 (omega arith)) (map_at-same (λ k. f (suc k)) (λ k. g (suc k)) xs d (λ k h. p (suc k) (omega arith)))
 
 -- ---- what holds at each place
 module _ {A : Type 0} (P : ℕ → A → Type 0) (d : A) where
@@ -49,7 +49,7 @@ module _ {A : Type 0} (P : ℕ → A → Type 0) (d : A) where
       ]
 
   -- after every place is mapped
-  pub places-mapAt : (f : ℕ → A → A) (l : List A) → ((k : ℕ) (x : A) → P k x → P k (f k x)) → Places l → Places (mapAt f l)
-  places-mapAt f l step old k h =
-      let i : k < length l = omega (arith, length-mapAt f l) in
-      rw (getD-mapAt f l k d d i) (step k (get_or l k d) (old k i))
+  pub places-map_at : (f : ℕ → A → A) (l : List A) → ((k : ℕ) (x : A) → P k x → P k (f k x)) → Places l → Places (map_at f l)
+  places-map_at f l step old k h =
+      let i : k < length l = omega (arith, length-map_at f l) in
+      rw (get_or-map_at f l k d d i) (step k (get_or l k d) (old k i))

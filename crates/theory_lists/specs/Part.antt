@@ -9,8 +9,8 @@ use Rattle.std.proofs.Math.Seq.{slice, paste, length-slice, length_paste_head}
 use Rattle.std.proofs.lemmas.List.Edits.{length-paste, take-paste}
 
 module _ {A : Type 0} where
-  pub getD-slice : (f t : ℕ) (l : List A) (k : ℕ) (d : A) → f + k < t → get_or (slice f t l) k d ≡ get_or l (f + k) d
-  getD-slice f t l k d h = rw (get_or-drop f (take t l) k d, get_or-take t l (f + k) d h)
+  pub get_or-slice : (f t : ℕ) (l : List A) (k : ℕ) (d : A) → f + k < t → get_or (slice f t l) k d ≡ get_or l (f + k) d
+  get_or-slice f t l k d h = rw (get_or-drop f (take t l) k d, get_or-take t l (f + k) d h)
 
   -- a place of the second list, past a first one of n places
   past : (p q : List A) (n k : ℕ) (d : A) → length p ≡ n → get_or (p ++ q) (n + k) d ≡ get_or q k d
@@ -52,9 +52,9 @@ module _ {A : Type 0} where
         ext_get_or d (slice f t (paste l at s n)) (slice f t l) (long ∙ sym (length-slice f t l h))
         (λ k i.
         let j : f + k < t = omega (arith, long) in
-        getD-slice f t (paste l at s n) k d j
+        get_or-slice f t (paste l at s n) k d j
         ∙ paste-out (f + k) d (⊎_elim (λ b. inl (omega arith)) (λ a. inr (omega arith)) apart)
-        ∙ sym (getD-slice f t l k d j))
+        ∙ sym (get_or-slice f t l k d j))
       where
         long : length (slice f t (paste l at s n)) ≡ t - f
         long = length-slice f t (paste l at s n) (omega (arith, length-paste l at s n room have))
@@ -132,7 +132,7 @@ module _ {A : Type 0} where
                 | yes q ↦ rw (q, get_or-set_same l (at + c) x d (omega arith))
                     (sym (get_or-set_same (slice at (at + n) l) c x d (omega (arith, length-set (slice at (at + n) l) c x, long))))
                 | no q ↦ get_or-set_other l (at + c) (at + j) x d (λ e. q (omega arith))
-                    ∙ sym (get_or-set_other (slice at (at + n) l) c j x d q ∙ getD-slice at (at + n) l j d (omega arith))
+                    ∙ sym (get_or-set_other (slice at (at + n) l) c j x d q ∙ get_or-slice at (at + n) l j d (omega arith))
               ]
 
 -- what stands at a place put there again; and put there twice

@@ -2,7 +2,7 @@
 -- Assumes nothing.
 use Rattle.std.specs.Prelude.{◌≡◌, List, [], ◌∷◌, ℕ, suc, ◌+◌, ◌*◌, ◌<◌, ◌≤◌, length, get_or, drop}
 use Rattle.std.proofs.Common.{◌∙◌, add_assoc, add-zero, mul-suc, add-one, arith, drop_of_length-le, drop-cons}
-use Rattle.theory_lists.specs.Each.{mapAt, length-mapAt, getD-mapAt}
+use Rattle.theory_lists.specs.Each.{map_at, length-map_at, get_or-map_at}
 
 unfoldable pub sum : List ℕ → ℕ
 sum [] = 0
@@ -26,9 +26,9 @@ sum-le m (x ∷ xs) p = omega (arith, p 0, sum-le m xs (λ k. p (suc k)), mul-su
 
 -- ---- the same of what f counts at each place of a list
 module _ {A : Type 0} (f : ℕ → A → ℕ) (l : List A) (d : A) where
-  pub count_turn : (i so_far : ℕ) → i < length l → sum (mapAt f l) ≡ so_far + sum (drop i (mapAt f l))
-      → sum (mapAt f l) ≡ so_far + f i (get_or l i d) + sum (drop (i + 1) (mapAt f l))
-  count_turn i so_far h e = rw (← getD-mapAt f l i d 0 h) (sum-turn (mapAt f l) i so_far (omega (arith, length-mapAt f l)) e)
+  pub count_turn : (i so_far : ℕ) → i < length l → sum (map_at f l) ≡ so_far + sum (drop i (map_at f l))
+      → sum (map_at f l) ≡ so_far + f i (get_or l i d) + sum (drop (i + 1) (map_at f l))
+  count_turn i so_far h e = rw (← get_or-map_at f l i d 0 h) (sum-turn (map_at f l) i so_far (omega (arith, length-map_at f l)) e)
 
-  pub count-end : (i so_far : ℕ) → length l ≤ i → sum (mapAt f l) ≡ so_far + sum (drop i (mapAt f l)) → sum (mapAt f l) ≡ so_far
-  count-end i so_far h e = sum-end (mapAt f l) i so_far (omega (arith, length-mapAt f l)) e
+  pub count-end : (i so_far : ℕ) → length l ≤ i → sum (map_at f l) ≡ so_far + sum (drop i (map_at f l)) → sum (map_at f l) ≡ so_far
+  count-end i so_far h e = sum-end (map_at f l) i so_far (omega (arith, length-map_at f l)) e

@@ -12,8 +12,8 @@ use native.Mathlib.Omega.{arith}
 use Rattle.std.proofs.Math.ListN.{length, get_or, set, get_or-eq_default}
 use Rattle.std.proofs.Math.Seq.{slice, paste, set_comm, get_or-set_same, length-slice}
 use Rattle.std.proofs.lemmas.List.Edits.{length-paste}
-use Rattle.theory_lists.specs.Each.{mapAt, length-mapAt, getD-mapAt}
-use Rattle.theory_lists.specs.Part.{getD-slice, paste-in, paste-out}
+use Rattle.theory_lists.specs.Each.{map_at, length-map_at, get_or-map_at}
+use Rattle.theory_lists.specs.Part.{get_or-slice, paste-in, paste-out}
 use Rattle.theory_lists.specs.Sum.{sum, sum-turn, sum-le}
 use Rattle.theory_lists.specs.Test.{whichever}
 
@@ -22,9 +22,9 @@ module _ {A : Type 0} (test : ℕ → A → Bool) (none d : A) (base : ℕ) wher
   swept zero l = l
   swept (suc n) l = cond (test n (get_or (swept n l) (base + n) d)) (set (swept n l) (base + n) none) (swept n l)
 
-  unfoldable pub sweptCount : ℕ → List A → ℕ
-  sweptCount zero l = 0
-  sweptCount (suc n) l = sweptCount n l + cond (test n (get_or (swept n l) (base + n) d)) 1 0
+  unfoldable pub swept_count : ℕ → List A → ℕ
+  swept_count zero l = 0
+  swept_count (suc n) l = swept_count n l + cond (test n (get_or (swept n l) (base + n) d)) 1 0
 
   pub length-swept : (n : ℕ) (l : List A) → length (swept n l) ≡ length l
   unfolding swept
@@ -34,11 +34,11 @@ module _ {A : Type 0} (test : ℕ → A → Bool) (none d : A) (base : ℕ) wher
       (length-set (swept n l) (base + n) none ∙ length-swept n l) (length-swept n l)
 
   -- at most one for each place
-  pub count_small : (n : ℕ) (l : List A) → sweptCount n l ≤ n
-  unfolding sweptCount
+  pub count_small : (n : ℕ) (l : List A) → swept_count n l ≤ n
+  unfolding swept_count
   count_small zero l = omega arith
   count_small (suc n) l =
-      whichever (λ (k : ℕ). sweptCount n l + k ≤ suc n) (test n (get_or (swept n l) (base + n) d)) 1 0
+      whichever (λ (k : ℕ). swept_count n l + k ≤ suc n) (test n (get_or (swept n l) (base + n) d)) 1 0
       (omega (arith, count_small n l)) (omega (arith, count_small n l))
 
   -- a place before the part, or one that was not passed yet, is as it was
@@ -106,8 +106,8 @@ module _ {A : Type 0} (test : ℕ → A → Bool) (none d : A) (base : ℕ) wher
             ∙ set_comm (swept n l) (base + k) (base + n) x none (λ e. ne (omega arith))
         turn ne before false = before
 
-    pub count-stored : (n : ℕ) → sweptCount n stored ≡ sweptCount n l
-    unfolding sweptCount
+    pub count-stored : (n : ℕ) → swept_count n stored ≡ swept_count n l
+    unfolding swept_count
     count-stored zero = refl
     count-stored (suc n) =
         elim (ℕ_discrete n k) [
@@ -128,11 +128,11 @@ module _ {A : Type 0} (test : ℕ → A → Bool) (none d : A) (base : ℕ) wher
     abbrev left : ℕ → A → A
     left c x = cond (test c x) none x
 
-    as_long : length (mapAt left row) ≡ w
-    as_long = length-mapAt left row ∙ long
+    as_long : length (map_at left row) ≡ w
+    as_long = length-map_at left row ∙ long
 
-    at_row : (c : ℕ) → c < w → get_or (mapAt left row) c d ≡ left c (get_or l (base + c) d)
-    at_row c h = getD-mapAt left row c d d (omega (arith, long)) ∙ ap (left c) (getD-slice base (base + w) l c d (omega arith))
+    at_row : (c : ℕ) → c < w → get_or (map_at left row) c d ≡ left c (get_or l (base + c) d)
+    at_row c h = get_or-map_at left row c d d (omega (arith, long)) ∙ ap (left c) (get_or-slice base (base + w) l c d (omega arith))
 
     swept-in : (c : ℕ) → c < w → get_or (swept n l) (base + c) d ≡ left c (get_or l (base + c) d)
     swept-in c h =
@@ -141,10 +141,10 @@ module _ {A : Type 0} (test : ℕ → A → Bool) (none d : A) (base : ℕ) wher
           | no i ↦ swept-out n l (base + c) (inr (omega arith)) ∙ rw (past c (omega arith) h)
         ]
 
-    pub swept-row : swept n l ≡ paste l base (mapAt left row) w
+    pub swept-row : swept n l ≡ paste l base (map_at left row) w
     swept-row =
-        let pasted = length-paste l base (mapAt left row) w room (omega (arith, as_long)) in
-        ext_get_or d (swept n l) (paste l base (mapAt left row) w) (length-swept n l ∙ sym pasted)
+        let pasted = length-paste l base (map_at left row) w room (omega (arith, as_long)) in
+        ext_get_or d (swept n l) (paste l base (map_at left row) w) (length-swept n l ∙ sym pasted)
         (λ k h.
         elim (dec_lt k base) [
           | yes b ↦ outside k (inl b)
@@ -154,44 +154,44 @@ module _ {A : Type 0} (test : ℕ → A → Bool) (none d : A) (base : ℕ) wher
           ]
         ])
       where
-        outside : (k : ℕ) → (k < base) ⊎ (base + w ≤ k) → get_or (swept n l) k d ≡ get_or (paste l base (mapAt left row) w) k d
+        outside : (k : ℕ) → (k < base) ⊎ (base + w ≤ k) → get_or (swept n l) k d ≡ get_or (paste l base (map_at left row) w) k d
         outside k out =
             swept-out n l k (⊎_elim (λ b. inl b) (λ a. inr (omega arith)) out)
-            ∙ sym (paste-out l base (mapAt left row) w room (omega (arith, as_long)) k d out)
+            ∙ sym (paste-out l base (map_at left row) w room (omega (arith, as_long)) k d out)
 
-        inside : {k : ℕ} (c : ℕ) → base + c ≡ k → c < w → get_or (swept n l) k d ≡ get_or (paste l base (mapAt left row) w) k d
+        inside : {k : ℕ} (c : ℕ) → base + c ≡ k → c < w → get_or (swept n l) k d ≡ get_or (paste l base (map_at left row) w) k d
         inside c e h =
-            rw (← e) (swept-in c h ∙ sym (paste-in l base (mapAt left row) w room (omega (arith, as_long)) c d h ∙ at_row c h))
+            rw (← e) (swept-in c h ∙ sym (paste-in l base (map_at left row) w room (omega (arith, as_long)) c d h ∙ at_row c h))
 
     abbrev one : ℕ → A → ℕ
     one c x = cond (test c x) 1 0
 
-    counts : length (mapAt one row) ≡ w
-    counts = length-mapAt one row ∙ long
+    counts : length (map_at one row) ≡ w
+    counts = length-map_at one row ∙ long
 
-    at_count : (c : ℕ) → c < w → get_or (mapAt one row) c 0 ≡ one c (get_or l (base + c) d)
-    at_count c h = getD-mapAt one row c d 0 (omega (arith, long)) ∙ ap (one c) (getD-slice base (base + w) l c d (omega arith))
+    at_count : (c : ℕ) → c < w → get_or (map_at one row) c 0 ≡ one c (get_or l (base + c) d)
+    at_count c h = get_or-map_at one row c d 0 (omega (arith, long)) ∙ ap (one c) (get_or-slice base (base + w) l c d (omega arith))
 
-    so_far : (k : ℕ) → k ≤ w → sum (mapAt one row) ≡ sweptCount k l + sum (drop k (mapAt one row))
-    unfolding sweptCount
-    so_far zero h = sym (zero-add (sum (mapAt one row)))
+    so_far : (k : ℕ) → k ≤ w → sum (map_at one row) ≡ swept_count k l + sum (drop k (map_at one row))
+    unfolding swept_count
+    so_far zero h = sym (zero-add (sum (map_at one row)))
     so_far (suc k) h =
-        let turn = sum-turn (mapAt one row) k (sweptCount k l) (omega (arith, counts)) (so_far k (omega arith)) in
+        let turn = sum-turn (map_at one row) k (swept_count k l) (omega (arith, counts)) (so_far k (omega arith)) in
         rw (add-one, at_count k (omega arith), ← swept-out k l (base + k) (inr (omega arith))) at turn
 
-    none_left : sum (drop n (mapAt one row)) ≡ 0
+    none_left : sum (drop n (map_at one row)) ≡ 0
     none_left =
-        omega (arith, sum-le 0 (drop n (mapAt one row)) (λ k. rw (get_or-drop n (mapAt one row) k 0) (zero-there (n + k) (omega arith))))
+        omega (arith, sum-le 0 (drop n (map_at one row)) (λ k. rw (get_or-drop n (map_at one row) k 0) (zero-there (n + k) (omega arith))))
       where
-        zero-there : (c : ℕ) → n ≤ c → get_or (mapAt one row) c 0 ≤ 0
+        zero-there : (c : ℕ) → n ≤ c → get_or (map_at one row) c 0 ≤ 0
         zero-there c h =
             elim (dec_lt c w) [
               | yes i ↦ rw (at_count c i, past c h i) (omega arith)
-              | no i ↦ rw (get_or-eq_default (mapAt one row) 0 {n = c} (omega (arith, counts))) (omega arith)
+              | no i ↦ rw (get_or-eq_default (map_at one row) 0 {n = c} (omega (arith, counts))) (omega arith)
             ]
 
-    pub swept-count : sweptCount n l ≡ sum (mapAt one row)
-    swept-count = sym (so_far n few ∙ ap (λ (k : ℕ). sweptCount n l + k) none_left ∙ add-zero (sweptCount n l))
+    pub swept-count : swept_count n l ≡ sum (map_at one row)
+    swept-count = sym (so_far n few ∙ ap (λ (k : ℕ). swept_count n l + k) none_left ∙ add-zero (swept_count n l))
 
 -- ---- a list swept from its start, of which the places past n have nothing to lose
 module _ {A : Type 0} (test : ℕ → A → Bool) (none d : A) (n : ℕ) (l : List A) (few : n ≤ length l)
@@ -202,19 +202,19 @@ module _ {A : Type 0} (test : ℕ → A → Bool) (none d : A) (n : ℕ) (l : Li
   all : slice 0 (0 + length l) l ≡ l
   all = take_all (0 + length l) l (omega arith)
 
-  pub swept_all : swept test none d 0 n l ≡ mapAt (λ c x. cond (test c x) none x) l
+  pub swept_all : swept test none d 0 n l ≡ map_at (λ c x. cond (test c x) none x) l
   swept_all =
       let left : ℕ → A → A = λ c x. cond (test c x) none x in
-      ext_get_or d (swept test none d 0 n l) (mapAt left l) (length-swept test none d 0 n l ∙ sym (length-mapAt left l))
+      ext_get_or d (swept test none d 0 n l) (map_at left l) (length-swept test none d 0 n l ∙ sym (length-map_at left l))
       (λ k h. at k (omega (arith, length-swept test none d 0 n l)))
     where
-      at : (k : ℕ) → k < length l → get_or (swept test none d 0 n l) k d ≡ get_or (mapAt (λ c x. cond (test c x) none x) l) k d
+      at : (k : ℕ) → k < length l → get_or (swept test none d 0 n l) k d ≡ get_or (map_at (λ c x. cond (test c x) none x) l) k d
       at k h =
           ap (λ (j : ℕ). get_or (swept test none d 0 n l) j d) (sym (zero-add k))
           ∙ swept-in test none d 0 n (length l) l few (omega arith) past-at k h
           ∙ ap (λ (j : ℕ). cond (test k (get_or l j d)) none (get_or l j d)) (zero-add k)
-          ∙ sym (getD-mapAt (λ c x. cond (test c x) none x) l k d d h)
+          ∙ sym (get_or-map_at (λ c x. cond (test c x) none x) l k d d h)
 
-  pub swept-all-count : sweptCount test none d 0 n l ≡ sum (mapAt (λ c x. cond (test c x) 1 0) l)
+  pub swept-all-count : swept_count test none d 0 n l ≡ sum (map_at (λ c x. cond (test c x) 1 0) l)
   swept-all-count =
-      swept-count test none d 0 n (length l) l few (omega arith) past-at ∙ ap (λ (m : List A). sum (mapAt (λ c x. cond (test c x) 1 0) m)) all
+      swept-count test none d 0 n (length l) l few (omega arith) past-at ∙ ap (λ (m : List A). sum (map_at (λ c x. cond (test c x) 1 0) m)) all

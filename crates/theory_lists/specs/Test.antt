@@ -6,7 +6,7 @@ use Rattle.std.proofs.Common.{sym, ap, ◌∙◌, add-one, arith, drop_of_length
 use Rattle.std.proofs.Math.Bool.{and_assoc, or_assoc, and-true, or-true, or-false, not-not}
 use Rattle.std.proofs.Math.Decide.{dec_le}
 use Rattle.std.proofs.lemmas.Bool.{lt-leb}
-use Rattle.theory_lists.specs.Each.{mapAt, length-mapAt, getD-mapAt}
+use Rattle.theory_lists.specs.Each.{map_at, length-map_at, get_or-map_at}
 
 unfoldable pub every : List Bool → Bool
 every [] = true
@@ -102,16 +102,16 @@ some_of (false ∷ bs) e = let found = some_of bs e in (suc found.0, found.1)
 
 -- ---- the same of a test at each place of a list
 module _ {A : Type 0} (test : ℕ → A → Bool) (l : List A) (d : A) where
-  pub every-mapAt : every (mapAt test l) ≡ true → (k : ℕ) → k < length l → test k (get_or l k d) ≡ true
-  every-mapAt e k h = sym (getD-mapAt test l k d true h) ∙ every-at (mapAt test l) e k
+  pub every-map_at : every (map_at test l) ≡ true → (k : ℕ) → k < length l → test k (get_or l k d) ≡ true
+  every-map_at e k h = sym (get_or-map_at test l k d true h) ∙ every-at (map_at test l) e k
 
-  pub mapAt-turn : {whole : Bool} (i : ℕ) (so_far : Bool) → i < length l → whole ≡ (so_far && every (drop i (mapAt test l)))
-      → whole ≡ (so_far && test i (get_or l i d) && every (drop (i + 1) (mapAt test l)))
-  mapAt-turn i so_far h e = rw (← getD-mapAt test l i d true h) (every-turn (mapAt test l) i so_far (omega (arith, length-mapAt test l)) e)
+  pub map_at-turn : {whole : Bool} (i : ℕ) (so_far : Bool) → i < length l → whole ≡ (so_far && every (drop i (map_at test l)))
+      → whole ≡ (so_far && test i (get_or l i d) && every (drop (i + 1) (map_at test l)))
+  map_at-turn i so_far h e = rw (← get_or-map_at test l i d true h) (every-turn (map_at test l) i so_far (omega (arith, length-map_at test l)) e)
 
-  pub mapAt-end : {whole : Bool} (i : ℕ) (so_far : Bool) → length l ≤ i → whole ≡ (so_far && every (drop i (mapAt test l))) → whole ≡ so_far
-  mapAt-end i so_far h e = every-end (mapAt test l) i so_far (omega (arith, length-mapAt test l)) e
+  pub map_at-end : {whole : Bool} (i : ℕ) (so_far : Bool) → length l ≤ i → whole ≡ (so_far && every (drop i (map_at test l))) → whole ≡ so_far
+  map_at-end i so_far h e = every-end (map_at test l) i so_far (omega (arith, length-map_at test l)) e
 
-  pub mapAt-every : ((k : ℕ) → k < length l → test k (get_or l k d) ≡ true) → every (mapAt test l) ≡ true
-  mapAt-every p =
-      every_of (mapAt test l) (λ k h. let i : k < length l = omega (arith, length-mapAt test l) in getD-mapAt test l k d true i ∙ p k i)
+  pub map_at-every : ((k : ℕ) → k < length l → test k (get_or l k d) ≡ true) → every (map_at test l) ≡ true
+  map_at-every p =
+      every_of (map_at test l) (λ k h. let i : k < length l = omega (arith, length-map_at test l) in get_or-map_at test l k d true i ∙ p k i)

@@ -7,8 +7,8 @@ use Prim.Native.Nat.{ℕ, zero, suc, ◌+◌, ◌-◌, ◌*◌, ◌≤◌, ◌<�
 use Rattle.std.proofs.Math.Decide.{dec_lt}
 use Rattle.std.proofs.Math.Numerals.{add-one}
 use native.Mathlib.Omega.{arith}
-use Rattle.theory_lists.specs.Each.{mapAt}
-use Rattle.theory_lists.specs.Test.{every, both, both_left, both_right, same_test, every-mapAt, mapAt-every}
+use Rattle.theory_lists.specs.Each.{map_at}
+use Rattle.theory_lists.specs.Test.{every, both, both_left, both_right, same_test, every-map_at, map_at-every}
 
 -- ---- n turns, and turns from place a up to place b
 unfoldable pub turns : {S : Type 0} → (S → ℕ → S) → S → ℕ → S
@@ -60,11 +60,11 @@ all_same f g zero p = refl
 all_same f g (suc n) p = ap₂ ◌&&◌ (all_same f g n (λ k h. p k (omega arith))) (p n (omega arith))
 
 -- the test of a list's places
-pub every-all : {A : Type 0} (test : ℕ → A → Bool) (l : List A) (d : A) → every (mapAt test l) ≡ all_below (λ k. test k (get_or l k d)) (length l)
+pub every-all : {A : Type 0} (test : ℕ → A → Bool) (l : List A) (d : A) → every (map_at test l) ≡ all_below (λ k. test k (get_or l k d)) (length l)
 every-all test l d =
-    same_test (every (mapAt test l)) (all_below (λ k. test k (get_or l k d)) (length l))
-    (λ e. all_of (λ k. test k (get_or l k d)) (length l) (every-mapAt test l d e))
-    (λ e. mapAt-every test l d (all-at (λ k. test k (get_or l k d)) (length l) e))
+    same_test (every (map_at test l)) (all_below (λ k. test k (get_or l k d)) (length l))
+    (λ e. all_of (λ k. test k (get_or l k d)) (length l) (every-map_at test l d e))
+    (λ e. map_at-every test l d (all-at (λ k. test k (get_or l k d)) (length l) e))
 
 -- a places, and then b more; and m rows of n places
 pub all_more : (test : ℕ → Bool) (a b : ℕ) → (all_below test a && all_below (λ k. test (a + k)) b) ≡ all_below test (a + b)

@@ -4,14 +4,14 @@ use Rattle.std.specs.Prelude.{◌≡◌, refl, List, [], ◌∷◌, ℕ, replica
 use Rattle.theory_causal.specs.History.{blank, from, nothing, wrote, showed}
 use Rattle.desk.specs.declared.Event.{Event}
 use Rattle.desk.specs.declared.Plan.{Plan}
-use Rattle.table.specs.Rules.{eventRule}
+use Rattle.table.specs.Rules.{event_rule}
 use Rattle.theory_promise.specs.Operations.{Account}
 use Rattle.theory_promise.specs.Played.{event, reply, plan, played}
 use Rattle.theory_promise.specs.Promise.{Explained, demand-3}
 
 -- three desks and two cells: cell 0, the datum, is kept by desk 1, and cell 1, the coordinate, by desk 0
-abbrev pub casePlan : Plan
-casePlan = plan 3 2 (1 ∷ 0 ∷ replicate 30 0)
+abbrev pub case_plan : Plan
+case_plan = plan 3 2 (1 ∷ 0 ∷ replicate 30 0)
 
 unfoldable pub script : List Event
 script =
@@ -20,7 +20,7 @@ script =
 
 unfoldable pub case : Account
 unfolding played
-case = played eventRule casePlan script
+case = played event_rule case_plan script
 
 pub case-replies : case.replies ≡
     reply 1 0 0 ∷ reply 0 0 0 ∷ reply 1 0 0 ∷ reply 0 0 0 ∷ reply 0 27 0 ∷ reply 1 0 0 ∷ reply 0 0 0 ∷ reply 0 500 1 ∷ reply 2 0 0
@@ -39,4 +39,4 @@ case-history = refl
 -- and each desk has its order
 pub case-explained : (p : ℕ) → Explained case p
 unfolding case
-case-explained = demand-3 casePlan refl refl script
+case-explained = demand-3 case_plan refl refl script

@@ -11,18 +11,18 @@ use borrow.Author.Tests.{le-leb, lt-ltb, le-ltb}
 use Rattle.std.proofs.Math.ListN.{length-append}
 use Rattle.theory_causal.specs.Demand.{In, Before, Nearest}
 use Rattle.theory_causal.specs.History.{Source, blank, from, write, read, Causal, word_of}
-use Rattle.theory_lists.specs.Test.{mapAt-every}
+use Rattle.theory_lists.specs.Test.{map_at-every}
 use Rattle.theory_refusals.specs.Refusals.{first_of, unless}
 use Rattle.desk.specs.declared.Event.{Event}
 use Rattle.desk.specs.declared.Plan.{Plan}
 use Rattle.desk.specs.declared.Reply.{Reply}
-use Rattle.desk.specs.Start.{keeperRight, keepersRight, setUpLines, setUpRefusal}
+use Rattle.desk.specs.Start.{keeper_right, keepers_right, set_up_lines, set_up_refusal}
 use Rattle.table.specs.Choice.{Engine, run, replies}
 use Rattle.table.specs.declared.Table.{Table}
-use Rattle.table.specs.Rules.{eventRule}
-use Rattle.table.specs.SetUp.{setUpRule}
-use Rattle.theory_promise.specs.Operations.{Account, codeFor, Shows, entry, repliedAt, opened, next, told, account}
-use Rattle.theory_promise.specs.Promise.{historyOf, Explained, demand-3}
+use Rattle.table.specs.Rules.{event_rule}
+use Rattle.table.specs.SetUp.{set_up_rule}
+use Rattle.theory_promise.specs.Operations.{Account, code_for, Shows, entry, replied_at, opened, next, told, account}
+use Rattle.theory_promise.specs.Promise.{history_of, Explained, demand-3}
 
 -- What a run owes to desk p: of these events, which had these replies, this is told.
 pub record InFull (events : List Event) (replied : List Reply) (a : Account) (p : ℕ) : Type 0 where
@@ -33,32 +33,32 @@ pub record InFull (events : List Event) (replied : List Reply) (a : Account) (p 
   -- a single order, in which stand
   pub order : List ℕ
   -- all writes taken by keepers,
-  pub writes-in : (x : ℕ) → (historyOf a x).kind ≡ write → In x order
+  pub writes-in : (x : ℕ) → (history_of a x).kind ≡ write → In x order
   -- the desk's finished reads,
-  pub reads_in : (x : ℕ) → (historyOf a x).kind ≡ read → (historyOf a x).desk ≡ p → In x order
+  pub reads_in : (x : ℕ) → (history_of a x).kind ≡ read → (history_of a x).desk ≡ p → In x order
   -- nothing else,
-  pub no_other : (x : ℕ) → In x order → ((historyOf a x).kind ≡ write) ⊎ (((historyOf a x).kind ≡ read) × ((historyOf a x).desk ≡ p))
+  pub no_other : (x : ℕ) → In x order → ((history_of a x).kind ≡ write) ⊎ (((history_of a x).kind ≡ read) × ((history_of a x).desk ≡ p))
   -- and each once
   pub once : (x : ℕ) → Before x x order → ⊥
   -- "It sets every operation after those that causally precede it, through any desk's operations"
-  pub causal : (x y : ℕ) → In x order → In y order → Causal (historyOf a) x y → Before x y order
+  pub causal : (x y : ℕ) → In x order → In y order → Causal (history_of a) x y → Before x y order
   -- each cell's writes stand as its keeper took them
-  pub in-turn : (v w : ℕ) → (historyOf a v).kind ≡ write → (historyOf a w).kind ≡ write → (historyOf a v).cell ≡ (historyOf a w).cell → v < w
+  pub in-turn : (v w : ℕ) → (history_of a v).kind ≡ write → (history_of a w).kind ≡ write → (history_of a v).cell ≡ (history_of a w).cell → v < w
       → Before v w order
   -- a read that comes from none: no write of its cell stands before it, and it was shown as blank; and nothing else was
-  pub none_before : (x w : ℕ) → (historyOf a x).kind ≡ read → (historyOf a x).desk ≡ p → (historyOf a x).source ≡ blank
-      → (historyOf a w).kind ≡ write → (historyOf a w).cell ≡ (historyOf a x).cell → Before w x order → ⊥
-  pub blank-shown : (x : ℕ) → (historyOf a x).kind ≡ read → (historyOf a x).desk ≡ p
-      → ((historyOf a x).source ≡ blank) ↔ (((repliedAt a x).code ≡ 2) × ((repliedAt a x).value ≡ 0))
+  pub none_before : (x w : ℕ) → (history_of a x).kind ≡ read → (history_of a x).desk ≡ p → (history_of a x).source ≡ blank
+      → (history_of a w).kind ≡ write → (history_of a w).cell ≡ (history_of a x).cell → Before w x order → ⊥
+  pub blank-shown : (x : ℕ) → (history_of a x).kind ≡ read → (history_of a x).desk ≡ p
+      → ((history_of a x).source ≡ blank) ↔ (((replied_at a x).code ≡ 2) × ((replied_at a x).value ≡ 0))
   -- a read that comes from a write: this is the nearest earlier write to its cell, and its word was shown, also a word of 0; and nothing else was
-  pub nearest : (x w : ℕ) → (historyOf a x).kind ≡ read → (historyOf a x).desk ≡ p → (historyOf a x).source ≡ from w
-      → ((historyOf a w).kind ≡ write) × ((historyOf a w).cell ≡ (historyOf a x).cell) × Before w x order
-  pub none_between : (x w v : ℕ) → (historyOf a x).kind ≡ read → (historyOf a x).desk ≡ p → (historyOf a x).source ≡ from w
-      → (historyOf a v).kind ≡ write → (historyOf a v).cell ≡ (historyOf a x).cell → Before v x order → (v ≡ w) ⊎ Before v w order
-  pub word-shown : (x w : ℕ) → (historyOf a x).kind ≡ read → (historyOf a x).desk ≡ p → (historyOf a x).source ≡ from w
-      → ((repliedAt a x).code ≡ 0) × ((repliedAt a x).value ≡ (historyOf a w).word)
-  pub shown-written : (x : ℕ) → (historyOf a x).kind ≡ read → (historyOf a x).desk ≡ p → (repliedAt a x).code ≡ 0
-      → (w : ℕ) × ((historyOf a x).source ≡ from w)
+  pub nearest : (x w : ℕ) → (history_of a x).kind ≡ read → (history_of a x).desk ≡ p → (history_of a x).source ≡ from w
+      → ((history_of a w).kind ≡ write) × ((history_of a w).cell ≡ (history_of a x).cell) × Before w x order
+  pub none_between : (x w v : ℕ) → (history_of a x).kind ≡ read → (history_of a x).desk ≡ p → (history_of a x).source ≡ from w
+      → (history_of a v).kind ≡ write → (history_of a v).cell ≡ (history_of a x).cell → Before v x order → (v ≡ w) ⊎ Before v w order
+  pub word-shown : (x w : ℕ) → (history_of a x).kind ≡ read → (history_of a x).desk ≡ p → (history_of a x).source ≡ from w
+      → ((replied_at a x).code ≡ 0) × ((replied_at a x).value ≡ (history_of a w).word)
+  pub shown-written : (x : ℕ) → (history_of a x).kind ≡ read → (history_of a x).desk ≡ p → (replied_at a x).code ≡ 0
+      → (w : ℕ) × ((history_of a x).source ≡ from w)
 
 -- ---- a run has one step for each event
 module _ (rule : Engine) where
@@ -85,52 +85,52 @@ module _ (rule : Engine) where
 -- ---- a plan as 01 asks for it is not refused
 module _ (plan : Plan) (some-desk : 1 ≤ plan.desks) (desks-most : plan.desks ≤ 8) (some-cell : 1 ≤ plan.cells) (cells-most : plan.cells ≤ 32)
     (keepers : (c : ℕ) → c < plan.cells → get_or plan.keepers c 0 < plan.desks) where
-  right : keepersRight plan ≡ true
-  unfolding keepersRight
+  right : keepers_right plan ≡ true
+  unfolding keepers_right
   right =
-      mapAt-every (keeperRight plan.desks plan.cells) plan.keepers 0
+      map_at-every (keeper_right plan.desks plan.cells) plan.keepers 0
       (λ c h. elim (dec_lt c plan.cells) [
         | yes lt ↦ rw (lt-ltb c plan.cells lt, lt-ltb (get_or plan.keepers c 0) plan.desks (keepers c lt))
         | no ge ↦ rw (le-ltb c plan.cells (omega arith))
       ])
 
-  taken : (setUpRule plan).code ≡ 0
-  unfolding setUpRule setUpRefusal setUpLines first_of unless
+  taken : (set_up_rule plan).code ≡ 0
+  unfolding set_up_rule set_up_refusal set_up_lines first_of unless
   taken = rw (le-leb 1 plan.desks some-desk, le-leb plan.desks 8 desks-most, le-leb 1 plan.cells some-cell, le-leb plan.cells 32 cells-most, right)
 
 -- ---- what a read of p's comes from
-module _ (a : Account) (p : ℕ) (e : Explained a p) (x : ℕ) (k : (historyOf a x).kind ≡ read) (d : (historyOf a x).desk ≡ p) (s : Source)
-    (is : (historyOf a x).source ≡ s) where
-  near : Nearest (historyOf a) (λ v w. Before v w e.steps) (historyOf a x).cell x s
-  near = subst (Nearest (historyOf a) (λ v w. Before v w e.steps) (historyOf a x).cell x) is (e.order.explains.nearest x (k, d))
+module _ (a : Account) (p : ℕ) (e : Explained a p) (x : ℕ) (k : (history_of a x).kind ≡ read) (d : (history_of a x).desk ≡ p) (s : Source)
+    (is : (history_of a x).source ≡ s) where
+  near : Nearest (history_of a) (λ v w. Before v w e.steps) (history_of a x).cell x s
+  near = subst (Nearest (history_of a) (λ v w. Before v w e.steps) (history_of a x).cell x) is (e.order.explains.nearest x (k, d))
 
-  says : Shows (repliedAt a x) (word_of (historyOf a) s) s
-  says = subst (λ (o : Source). Shows (repliedAt a x) (word_of (historyOf a) o) o) is (e.shown x (k, d))
+  says : Shows (replied_at a x) (word_of (history_of a) s) s
+  says = subst (λ (o : Source). Shows (replied_at a x) (word_of (history_of a) o) o) is (e.shown x (k, d))
 
 -- ---- a code tells where a read came from
-source-two : (s : Source) → codeFor s ≡ 2 → s ≡ blank
-unfolding codeFor
+source-two : (s : Source) → code_for s ≡ 2 → s ≡ blank
+unfolding code_for
 source-two blank e = refl
 source-two (from w) e = absurd (omega arith)
 
-source-zero : (s : Source) → codeFor s ≡ 0 → (w : ℕ) × (s ≡ from w)
-unfolding codeFor
+source-zero : (s : Source) → code_for s ≡ 0 → (w : ℕ) × (s ≡ from w)
+unfolding code_for
 source-zero blank e = absurd (omega arith)
 source-zero (from w) e = (w, refl)
 
 -- For every number of desks, of cells and of events, with any numbers in them, and for every desk.
 pub in-full : (plan : Plan) → length plan.keepers ≡ 32 → 1 ≤ plan.desks → plan.desks ≤ 8 → 1 ≤ plan.cells → plan.cells ≤ 32
     → ((c : ℕ) → c < plan.cells → get_or plan.keepers c 0 < plan.desks) → (events : List Event) (p : ℕ)
-    → InFull events (replies (run eventRule (setUpRule plan).table events)) (account eventRule (setUpRule plan).table events) p
-unfolding Nearest word_of codeFor
+    → InFull events (replies (run event_rule (set_up_rule plan).table events)) (account event_rule (set_up_rule plan).table events) p
+unfolding Nearest word_of code_for
 in-full plan long some-desk desks-most some-cell cells-most keepers events p =
-    let t = (setUpRule plan).table in
-    let a = account eventRule t events in
+    let t = (set_up_rule plan).table in
+    let a = account event_rule t events in
     let e = demand-3 plan long (taken plan some-desk desks-most some-cell cells-most keepers) events p in
     record {
-      one-step = steps-told eventRule (opened t) t events ∙ zero-add (length events);
-      one-reply = one_each eventRule t events;
-      as-replied = replies-told eventRule (opened t) t events;
+      one-step = steps-told event_rule (opened t) t events ∙ zero-add (length events);
+      one-reply = one_each event_rule t events;
+      as-replied = replies-told event_rule (opened t) t events;
       order = e.steps;
       writes-in = λ x k. e.order.seen x (inl k);
       reads_in = λ x k d. e.order.seen x (inr (k, d));
@@ -141,10 +141,10 @@ in-full plan long some-desk desks-most some-cell cells-most keepers events p =
       none_before = λ x w k d s i c b. near a p e x k d blank s w (i, c) b;
       blank-shown = λ x k d. (
         λ s. let r = says a p e x k d blank s in (r.code, r.value),
-        λ r. source-two (historyOf a x).source (sym (e.shown x (k, d)).code ∙ r.0),
+        λ r. source-two (history_of a x).source (sym (e.shown x (k, d)).code ∙ r.0),
       );
       nearest = λ x w k d s. let n = near a p e x k d (from w) s in (n.0.0, n.0.1, n.1);
       none_between = λ x w v k d s i c b. (near a p e x k d (from w) s).2 v (i, c) b;
       word-shown = λ x w k d s. let r = says a p e x k d (from w) s in (r.code, r.value);
-      shown-written = λ x k d r. source-zero (historyOf a x).source (sym (e.shown x (k, d)).code ∙ r);
+      shown-written = λ x k d r. source-zero (history_of a x).source (sym (e.shown x (k, d)).code ∙ r);
     }

@@ -10,7 +10,7 @@ use Rattle.desk.specs.Desk.{Word, no_word}
 use Rattle.table.specs.Choice.{Engine, run}
 use Rattle.table.specs.declared.Outcome.{Outcome}
 use Rattle.table.specs.declared.Table.{Table}
-use Rattle.table.specs.Table.{seatOf, slot_of, keeperFor}
+use Rattle.table.specs.Table.{seat_of, slot_of, keeper_for}
 
 -- the words of cells, and the one that stands where none was written
 abbrev pub words : Words
@@ -35,8 +35,8 @@ abbrev pub Trails : Type 0
 Trails = (desk : ℕ) → Trail
 
 -- "A read is finished when code 0 or 2 gives its word."
-unfoldable pub isFinished : (code : ℕ) → Bool
-isFinished code = eqb code 0 || eqb code 2
+unfoldable pub is_finished : (code : ℕ) → Bool
+is_finished code = eqb code 0 || eqb code 2
 
 -- What an event at step n adds to the history, and the trails after it, as its kind, its reply and the desk's slot before it tell.
 unfoldable pub entry : (n : ℕ) → Trails → Table → Event → Reply → Step words × Trails
@@ -44,9 +44,9 @@ entry n g t e r =
     let p = e.desk in
     let c = e.cell in
     let s = slot_of t p in
-    let k = keeperFor t p in
+    let k = keeper_for t p in
     -- a read of a held cell is finished
-    cond (eqb e.kind 1 && isFinished r.code) (showed p c r.value ((g p).source c) n, g)
+    cond (eqb e.kind 1 && is_finished r.code) (showed p c r.value ((g p).source c) n, g)
     -- a keeper stores its own write
     (cond (eqb e.kind 2 && eqb r.code 0) (wrote p c e.word n, changed g p (holding (g p) c (from n)))
     -- a read or a write is asked
@@ -56,9 +56,9 @@ entry n g t e r =
     (cond (eqb e.kind 3 && eqb r.code 0)
     (wrote p s.cell s.word (g p).asked, changed (changed g k (holding (g k) s.cell (from n))) p (answered (g p) (from n)))
     -- a bring: an asked read is finished, or the answer to a write has arrived; with *served* on the cell is not held, so its source stays
-    (cond (eqb e.kind 4 && isFinished r.code) (
+    (cond (eqb e.kind 4 && is_finished r.code) (
       cond (eqb s.kind 3) (showed p s.cell r.value (g p).answer (g p).asked) nothing,
-      changed g p (holding (g p) s.cell (cond (seatOf t p).served ((g p).source s.cell) (g p).answer)),
+      changed g p (holding (g p) s.cell (cond (seat_of t p).served ((g p).source s.cell) (g p).answer)),
     )
     -- a drop, or a refusal
     (nothing, g))))))
@@ -70,21 +70,21 @@ pub record Account : Type 0 where
   pub history : List (Step words)
   pub replies : List Reply
 
-abbrev pub noReply : Reply
-noReply = record { code = 0; value = 0; count = 0 }
+abbrev pub no_reply : Reply
+no_reply = record { code = 0; value = 0; count = 0 }
 
-abbrev pub repliedAt : Account → (step : ℕ) → Reply
-repliedAt a x = get_or a.replies x noReply
+abbrev pub replied_at : Account → (step : ℕ) → Reply
+replied_at a x = get_or a.replies x no_reply
 
 -- Blank is what comes from no write, and it has code 2. What comes from a write has code 0, whatever its word, also 0.
-unfoldable pub codeFor : Source → ℕ
-codeFor blank = 2
-codeFor (from w) = 0
+unfoldable pub code_for : Source → ℕ
+code_for blank = 2
+code_for (from w) = 0
 
 -- the reply to a read that comes from this source gives this word
 pub record Shows (r : Reply) (word : Word) (source : Source) : Type 0 where
   pub value : r.value ≡ word
-  pub code : r.code ≡ codeFor source
+  pub code : r.code ≡ code_for source
 
 -- before the first event no word comes from a write
 abbrev pub opened : Table → Account

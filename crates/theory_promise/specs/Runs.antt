@@ -10,17 +10,17 @@ use Rattle.theory_causal.specs.Machine as machine
 use Rattle.desk.specs.declared.Event.{Event}
 use Rattle.desk.specs.declared.Plan.{Plan}
 use Rattle.desk.specs.declared.Reply.{Reply}
-use Rattle.desk.specs.Start.{freshTray, setUpRefusal}
+use Rattle.desk.specs.Start.{fresh_tray, set_up_refusal}
 use Rattle.table.specs.Choice.{run}
 use Rattle.table.specs.declared.Outcome.{Outcome}
 use Rattle.table.specs.declared.SetUp.{SetUp}
 use Rattle.table.specs.Fresh.{fresh-room}
 use Rattle.table.specs.Room.{Room, event-room}
-use Rattle.table.specs.Rules.{eventRule}
-use Rattle.table.specs.SetUp.{freshTable, notSetUp, setUpRule}
+use Rattle.table.specs.Rules.{event_rule}
+use Rattle.table.specs.SetUp.{fresh_table, not_set_up, set_up_rule}
 use Rattle.theory_refusals.specs.Refusals.{unless-either}
 use Rattle.theory_promise.specs.Link.{Tied, linked}
-use Rattle.theory_promise.specs.Operations.{words, entry, Account, noReply, repliedAt, opened, next, told, account}
+use Rattle.theory_promise.specs.Operations.{words, entry, Account, no_reply, replied_at, opened, next, told, account}
 use Rattle.theory_promise.specs.Start.{start}
 use Rattle.theory_promise.specs.State.{clash, state}
 
@@ -29,14 +29,14 @@ pub record Runs (a : Account) : Type 0 where
   pub room : Room a.table
   pub runs : machine.Run a.history (state a.table a.trails)
   pub long : length a.replies ≡ length a.history
-  pub tied : (x : ℕ) → Tied (listed a.history x) (repliedAt a x)
+  pub tied : (x : ℕ) → Tied (listed a.history x) (replied_at a x)
 
 -- ---- one event more
 seam : {A : Type 0} (l : List A) (a d : A) (x : ℕ) → x ≡ length l → get_or (l ++ (a ∷ [])) x d ≡ a
 seam l a d x e = rw e (get_or-append_seam l a [] d)
 
 abbrev outcome : Account → Event → Outcome
-outcome a e = eventRule a.table e
+outcome a e = event_rule a.table e
 
 abbrev reply : Account → Event → Reply
 reply a e = (outcome a e).reply
@@ -65,27 +65,27 @@ runs-next a e r =
       room = event-room a.table e r.room;
       runs = machine.next r.runs k.moved.move;
       long = omega (arith, r.long, length-append a.replies (reply a e ∷ []), length-append a.history (step a e ∷ []));
-      tied = tied-next a.history a.replies (step a e) (reply a e) noReply r.long r.tied k.tied;
+      tied = tied-next a.history a.replies (step a e) (reply a e) no_reply r.long r.tied k.tied;
     }
 
-pub runs-all : (a : Account) (events : List Event) → Runs a → Runs (told a events (run eventRule a.table events))
+pub runs-all : (a : Account) (events : List Event) → Runs a → Runs (told a events (run event_rule a.table events))
 unfolding run told next
 runs-all a [] r = r
 runs-all a (e ∷ es) r = runs-all (next a e (outcome a e)) es (runs-next a e r)
 
 -- ---- from a set-up that is not refused
 module _ (p : Plan) (long : length p.keepers ≡ 32) where
-  runs-fresh : Runs (opened (freshTable (freshTray p)))
+  runs-fresh : Runs (opened (fresh_table (fresh_tray p)))
   runs-fresh = record {
     room = fresh-room p long;
-    runs = machine.start (start (freshTray p));
+    runs = machine.start (start (fresh_tray p));
     long = refl;
     tied = λ x k. clash (cc);
   }
 
-  pub runs-from : (setUpRule p).code ≡ 0 → (events : List Event) → Runs (account eventRule (setUpRule p).table events)
-  unfolding setUpRule
+  pub runs-from : (set_up_rule p).code ≡ 0 → (events : List Event) → Runs (account event_rule (set_up_rule p).table events)
+  unfolding set_up_rule
   runs-from ok events =
       runs-all _ events
-      (unless-either (setUpRefusal p) notSetUp (record { code = 0; table = freshTable (freshTray p) })
+      (unless-either (set_up_refusal p) not_set_up (record { code = 0; table = fresh_table (fresh_tray p) })
       (λ (s : SetUp). s.code ≡ 0 → Runs (opened s.table)) (λ some ok. absurd (some ok)) (λ none ok. runs-fresh) ok)

@@ -13,51 +13,51 @@ use Rattle.desk.specs.declared.Event.{Event}
 use Rattle.desk.specs.declared.Message.{Message}
 use Rattle.desk.specs.declared.Plan.{Plan}
 use Rattle.desk.specs.declared.Record.{Record}
-use Rattle.desk.specs.Desk.{noCell, no_slot, cell_at}
-use Rattle.desk.specs.Rules.{learns, holds, withClock, withSeat, slotted, brought, brings, bringDone}
+use Rattle.desk.specs.Desk.{no_cell, no_slot, cell_at}
+use Rattle.desk.specs.Rules.{learns, holds, with_clock, with_seat, slotted, brought, brings, bring_done}
 use Rattle.table.specs.declared.Outcome.{Outcome}
 use Rattle.table.specs.declared.Table.{Table}
-use Rattle.table.specs.Rules.{refusal, messageOf, outcome, bringRule, done, refusedWith, eventRule}
-use Rattle.table.specs.SetUp.{setUpRule}
-use Rattle.table.specs.Table.{recordOf, put_back}
+use Rattle.table.specs.Rules.{refusal, message_of, outcome, bring_rule, done, refused_with, event_rule}
+use Rattle.table.specs.SetUp.{set_up_rule}
+use Rattle.table.specs.Table.{record_of, put_back}
 use Rattle.theory_refusals.specs.Refusals.{unless}
-use Rattle.theory_promise.specs.Case.{casePlan, script}
+use Rattle.theory_promise.specs.Case.{case_plan, script}
 use Rattle.theory_promise.specs.Operations.{words}
 use Rattle.theory_promise.specs.Played.{event, plan, played}
 use Rattle.theory_promise.specs.Promise.{Demand3}
 
 -- the table's rule with something else done to the desk's record at a bring
 module _ (bringing : Record → Message → Record) where
-  unfoldable pub withBring : Table → Event → Outcome
-  withBring t e =
-      unless (refusal t e) (refusedWith t)
+  unfoldable pub with_bring : Table → Event → Outcome
+  with_bring t e =
+      unless (refusal t e) (refused_with t)
       (cond (eqb e.kind 4)
-      (record { reply = (done t e).reply; after = put_back t (bringing (recordOf t e.desk) (messageOf t e.desk)) })
+      (record { reply = (done t e).reply; after = put_back t (bringing (record_of t e.desk) (message_of t e.desk)) })
       (done t e))
 
 -- with nothing else done it is the table's rule
-pub right : (t : Table) (e : Event) → withBring brings t e ≡ eventRule t e
-unfolding withBring eventRule done bringRule outcome bringDone
-right t e = ap (unless (refusal t e) (refusedWith t)) (elim (ℕ_discrete e.kind 4) [ yes i ↦ rw i | no ne ↦ rw (ne_eqb e.kind 4 ne) ])
+pub right : (t : Table) (e : Event) → with_bring brings t e ≡ event_rule t e
+unfolding with_bring event_rule done bring_rule outcome bring_done
+right t e = ap (unless (refusal t e) (refused_with t)) (elim (ℕ_discrete e.kind 4) [ yes i ↦ rw i | no ne ↦ rw (ne_eqb e.kind 4 ne) ])
 
 -- Keeping an answer that arrives after the desk served a write.
-unfoldable pub keepsServed : Record → Message → Record
-keepsServed v m = slotted (holds (learns (holds v m.cell noCell) m.clock) m.cell (brought false m)) no_slot
+unfoldable pub keeps_served : Record → Message → Record
+keeps_served v m = slotted (holds (learns (holds v m.cell no_cell) m.clock) m.cell (brought false m)) no_slot
 
 -- Dropping nothing when a write's answer arrives.
-unfoldable pub dropsNothing : Record → Message → Record
-dropsNothing v m =
+unfoldable pub drops_nothing : Record → Message → Record
+drops_nothing v m =
     cond (eqb m.kind 4)
-    (slotted (holds (withSeat v (withClock v.seat (merged v.seat.clock m.clock))) m.cell (brought v.seat.served m)) no_slot)
+    (slotted (holds (with_seat v (with_clock v.seat (merged v.seat.clock m.clock))) m.cell (brought v.seat.served m)) no_slot)
     (brings v m)
 
 -- Leaving the desk's old copy when its own write was answered with *served* on.
-unfoldable pub leavesCopy : Record → Message → Record
-leavesCopy v m = cond (eqb m.kind 4 && v.seat.served) (holds (brings v m) m.cell (cell_at v.row m.cell)) (brings v m)
+unfoldable pub leaves_copy : Record → Message → Record
+leaves_copy v m = cond (eqb m.kind 4 && v.seat.served) (holds (brings v m) m.cell (cell_at v.row m.cell)) (brings v m)
 
 -- ---- a run whose history has no order for desk p
 module _ (rule : Table → Event → Outcome) (from-plan : Plan) (events : List Event) (h : List (Step words)) (p : ℕ) where
-  broken : length from-plan.keepers ≡ 32 → (setUpRule from-plan).code ≡ 0 → (played rule from-plan events).history ≡ h
+  broken : length from-plan.keepers ≡ 32 → (set_up_rule from-plan).code ≡ 0 → (played rule from-plan events).history ≡ h
       → ((l : List ℕ) → Order (listed h) p l → ⊥) → Demand3 rule → ⊥
   unfolding played
   broken long ok is none d =
@@ -70,10 +70,10 @@ first =
     nothing ∷ nothing ∷ nothing ∷ wrote 2 0 27 2 ∷ nothing ∷ nothing ∷ wrote 2 1 500 5 ∷ nothing ∷ showed 0 0 0 blank 0
     ∷ showed 0 1 500 (from 6) 9 ∷ showed 0 0 0 blank 10 ∷ nothing ∷ nothing ∷ []
 
-pub keeps-served-breaks : Demand3 (withBring keepsServed) → ⊥
-unfolding played withBring keepsServed script first
+pub keeps-served-breaks : Demand3 (with_bring keeps_served) → ⊥
+unfolding played with_bring keeps_served script first
 keeps-served-breaks =
-    broken (withBring keepsServed) casePlan script first 0 refl refl refl
+    broken (with_bring keeps_served) case_plan script first 0 refl refl refl
     (λ l o.
     late o 3 10 (refl, refl) (refl, refl) refl
     (chain (chain (then (listed first) 3 6 (inl refl) (inl refl) refl (omega arith)) (shown {w = 6} {x = 9} refl refl refl))
@@ -87,10 +87,10 @@ second =
     nothing ∷ nothing ∷ showed 1 0 0 blank 0 ∷ wrote 0 0 11 3 ∷ wrote 0 1 12 4 ∷ nothing ∷ nothing ∷ wrote 1 1 14 6 ∷ nothing
     ∷ showed 1 0 0 blank 9 ∷ wrote 0 2 13 5 ∷ showed 1 2 13 (from 10) 11 ∷ showed 1 1 14 (from 7) 12 ∷ []
 
-pub drops-nothing-breaks : Demand3 (withBring dropsNothing) → ⊥
-unfolding played withBring dropsNothing second Nearest
+pub drops-nothing-breaks : Demand3 (with_bring drops_nothing) → ⊥
+unfolding played with_bring drops_nothing second Nearest
 drops-nothing-breaks =
-    broken (withBring dropsNothing) (plan 2 3 (0 ∷ 0 ∷ 1 ∷ replicate 29 0))
+    broken (with_bring drops_nothing) (plan 2 3 (0 ∷ 0 ∷ 1 ∷ replicate 29 0))
     (event 1 1 0 0 ∷ event 3 1 0 0 ∷ event 4 1 0 0 ∷ event 2 0 0 11 ∷ event 2 0 1 12 ∷ event 2 0 2 13 ∷ event 2 1 1 14 ∷ event 3 1 0 0
     ∷ event 4 1 0 0 ∷ event 1 1 0 0 ∷ event 3 0 0 0 ∷ event 1 1 2 0 ∷ event 1 1 1 0 ∷ [])
     second 1 refl refl refl
@@ -112,10 +112,10 @@ unfoldable pub third : List (Step words)
 third =
     nothing ∷ nothing ∷ wrote 1 0 27 1 ∷ nothing ∷ nothing ∷ wrote 1 0 28 4 ∷ wrote 0 1 5 0 ∷ nothing ∷ showed 1 0 27 (from 2) 8 ∷ []
 
-pub leaves-copy-breaks : Demand3 (withBring leavesCopy) → ⊥
-unfolding played withBring leavesCopy third
+pub leaves-copy-breaks : Demand3 (with_bring leaves_copy) → ⊥
+unfolding played with_bring leaves_copy third
 leaves-copy-breaks =
-    broken (withBring leavesCopy) (plan 2 2 (0 ∷ 1 ∷ replicate 30 0))
+    broken (with_bring leaves_copy) (plan 2 2 (0 ∷ 1 ∷ replicate 30 0))
     (event 2 0 1 5 ∷ event 2 1 0 27 ∷ event 3 1 0 0 ∷ event 4 1 0 0 ∷ event 2 1 0 28 ∷ event 3 1 0 0 ∷ event 3 0 0 0 ∷ event 4 1 0 0
     ∷ event 1 1 0 0 ∷ [])
     third 1 refl refl refl

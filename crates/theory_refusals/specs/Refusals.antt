@@ -22,9 +22,9 @@ unless (suc n) refused done = refused (suc n)
 
 -- ---- the first that applies
 -- no number is below k: not 0, so that 0 is none; not 1 or 2, which are codes of what is done
-unfoldable pub numbersFrom : ℕ → List Line → Bool
-numbersFrom k [] = true
-numbersFrom k ((number, test) ∷ ls) = leb k number && numbersFrom k ls
+unfoldable pub numbers_from : ℕ → List Line → Bool
+numbers_from k [] = true
+numbers_from k ((number, test) ∷ ls) = leb k number && numbers_from k ls
 
 -- the test of the line with this number
 unfoldable pub test_of : ℕ → List Line → Bool
@@ -32,26 +32,26 @@ test_of n [] = false
 test_of n ((number, test) ∷ ls) = cond (eqb n number) test (test_of n ls)
 
 -- none applies: so no line's test did
-pub none-applies : (ls : List Line) → numbersFrom 1 ls ≡ true → first_of ls ≡ 0 → (n : ℕ) → test_of n ls ≡ false
-unfolding first_of numbersFrom test_of
+pub none-applies : (ls : List Line) → numbers_from 1 ls ≡ true → first_of ls ≡ 0 → (n : ℕ) → test_of n ls ≡ false
+unfolding first_of numbers_from test_of
 none-applies [] from e n = refl
-none-applies ((number, true) ∷ ls) from e n = absurd (omega (arith, leb-true 1 number (both_left (leb 1 number) (numbersFrom 1 ls) from)))
+none-applies ((number, true) ∷ ls) from e n = absurd (omega (arith, leb-true 1 number (both_left (leb 1 number) (numbers_from 1 ls) from)))
 none-applies ((number, false) ∷ ls) from e n =
     whichever (λ (b : Bool). b ≡ false) (eqb n number) false (test_of n ls) refl
-    (none-applies ls (both_right (leb 1 number) (numbersFrom 1 ls) from) e n)
+    (none-applies ls (both_right (leb 1 number) (numbers_from 1 ls) from) e n)
 
 -- and none of those after the first does
-pub none_after : (l : Line) (ls : List Line) → numbersFrom 1 (l ∷ ls) ≡ true → first_of (l ∷ ls) ≡ 0 → first_of ls ≡ 0
-unfolding first_of numbersFrom
-none_after (number, true) ls from e = absurd (omega (arith, leb-true 1 number (both_left (leb 1 number) (numbersFrom 1 ls) from)))
+pub none_after : (l : Line) (ls : List Line) → numbers_from 1 (l ∷ ls) ≡ true → first_of (l ∷ ls) ≡ 0 → first_of ls ≡ 0
+unfolding first_of numbers_from
+none_after (number, true) ls from e = absurd (omega (arith, leb-true 1 number (both_left (leb 1 number) (numbers_from 1 ls) from)))
 none_after (number, false) ls from e = e
 
 -- a refusal is none of the codes of what is done
-pub first-from : (k : ℕ) (ls : List Line) → numbersFrom k ls ≡ true → (first_of ls ≡ 0) ⊎ (k ≤ first_of ls)
-unfolding first_of numbersFrom
+pub first-from : (k : ℕ) (ls : List Line) → numbers_from k ls ≡ true → (first_of ls ≡ 0) ⊎ (k ≤ first_of ls)
+unfolding first_of numbers_from
 first-from k [] from = inl refl
-first-from k ((number, true) ∷ ls) from = inr (leb-true k number (both_left (leb k number) (numbersFrom k ls) from))
-first-from k ((number, false) ∷ ls) from = first-from k ls (both_right (leb k number) (numbersFrom k ls) from)
+first-from k ((number, true) ∷ ls) from = inr (leb-true k number (both_left (leb k number) (numbers_from k ls) from))
+first-from k ((number, false) ∷ ls) from = first-from k ls (both_right (leb k number) (numbers_from k ls) from)
 
 -- more lines after these
 pub first_some : (ls more : List Line) → (first_of ls ≡ 0 → ⊥) → first_of (ls ++ more) ≡ first_of ls
@@ -60,17 +60,17 @@ first_some [] more some = absurd (some refl)
 first_some ((number, true) ∷ ls) more some = refl
 first_some ((number, false) ∷ ls) more some = first_some ls more some
 
-pub first_more : (ls more : List Line) → numbersFrom 1 ls ≡ true → first_of ls ≡ 0 → first_of (ls ++ more) ≡ first_of more
-unfolding first_of numbersFrom
+pub first_more : (ls more : List Line) → numbers_from 1 ls ≡ true → first_of ls ≡ 0 → first_of (ls ++ more) ≡ first_of more
+unfolding first_of numbers_from
 first_more [] more from none = refl
-first_more ((number, true) ∷ ls) more from none = absurd (omega (arith, leb-true 1 number (both_left (leb 1 number) (numbersFrom 1 ls) from)))
-first_more ((number, false) ∷ ls) more from none = first_more ls more (both_right (leb 1 number) (numbersFrom 1 ls) from) none
+first_more ((number, true) ∷ ls) more from none = absurd (omega (arith, leb-true 1 number (both_left (leb 1 number) (numbers_from 1 ls) from)))
+first_more ((number, false) ∷ ls) more from none = first_more ls more (both_right (leb 1 number) (numbers_from 1 ls) from) none
 
-pub first-none : (ls more : List Line) → numbersFrom 1 ls ≡ true → first_of (ls ++ more) ≡ 0 → (first_of ls ≡ 0) × (first_of more ≡ 0)
-unfolding first_of numbersFrom
+pub first-none : (ls more : List Line) → numbers_from 1 ls ≡ true → first_of (ls ++ more) ≡ 0 → (first_of ls ≡ 0) × (first_of more ≡ 0)
+unfolding first_of numbers_from
 first-none [] more from e = (refl, e)
-first-none ((number, true) ∷ ls) more from e = absurd (omega (arith, leb-true 1 number (both_left (leb 1 number) (numbersFrom 1 ls) from)))
-first-none ((number, false) ∷ ls) more from e = first-none ls more (both_right (leb 1 number) (numbersFrom 1 ls) from) e
+first-none ((number, true) ∷ ls) more from e = absurd (omega (arith, leb-true 1 number (both_left (leb 1 number) (numbers_from 1 ls) from)))
+first-none ((number, false) ∷ ls) more from e = first-none ls more (both_right (leb 1 number) (numbers_from 1 ls) from) e
 
 -- ---- refused, or done
 module _ {A : Type 0} (n : ℕ) (refused : ℕ → A) (done : A) where

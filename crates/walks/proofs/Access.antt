@@ -58,38 +58,38 @@ module _ {R E : Plain} {n : ℕ} (r : Row R E n) where
 abbrev value : Ty → Local
 value τ = local τ value_local
 
-abbrev pub lentTy : Plain → Ty
-lentTy R = ty_ref (named 0) mut (pointee R.F.row.written)
+abbrev pub lent_ty : Plain → Ty
+lent_ty R = ty_ref (named 0) mut (pointee R.F.row.written)
 
 abbrev pub place_in : {R X : Plain} → Part R X → Place
 place_in {R} p = place 1 (deref (ty R) ∷ p.step ∷ p.steps [])
 
 module _ {R X : Plain} (p : Part R X) where
-  abbrev getFn : Fn
-  getFn = record {
+  abbrev get_fn : Fn
+  get_fn = record {
     lifetimes = 1;
     outlives = [];
     params = 1;
-    locals = value (ty X) ∷ value (lentTy R) ∷ [];
+    locals = value (ty X) ∷ value (lent_ty R) ∷ [];
     body = seq (assign (place 0 []) (rv_opd (copy (place_in p)))) return;
   }
 
-  abbrev setFn : Fn
-  setFn = record {
+  abbrev set_fn : Fn
+  set_fn = record {
     lifetimes = 1;
     outlives = [];
     params = 2;
-    locals = value ty_unit ∷ value (lentTy R) ∷ value (ty X) ∷ [];
+    locals = value ty_unit ∷ value (lent_ty R) ∷ value (ty X) ∷ [];
     body = seq (assign (place_in p) (rv_opd (copy (place 2 [])))) (seq (assign (place 0 []) (rv_opd opd_unit)) return);
   }
 
 module _ {R E : Plain} {n : ℕ} (r : Row R E n) where
-  abbrev getAtFn : Fn
-  getAtFn = record {
+  abbrev get_at_fn : Fn
+  get_at_fn = record {
     lifetimes = 1;
     outlives = [];
     params = 2;
-    locals = value (ty E) ∷ value (lentTy R) ∷ value (ty_int w64) ∷ value (ty_int w64) ∷ value ty_ptr ∷ value ty_ptr ∷ value (ty E) ∷ [];
+    locals = value (ty E) ∷ value (lent_ty R) ∷ value (ty_int w64) ∷ value (ty_int w64) ∷ value ty_ptr ∷ value ty_ptr ∷ value (ty E) ∷ [];
     body =
         seq (assign (place 3 []) (op2 (mul unsigned) (copy (place 2 [])) (int w64 (size (ty E)))))
         (seq (assign (place 4 []) (addr_of (place_in r.part)))
@@ -99,12 +99,12 @@ module _ {R E : Plain} {n : ℕ} (r : Row R E n) where
         return))));
   }
 
-  abbrev getByteFn : Fn
-  getByteFn = record {
+  abbrev get_byte_fn : Fn
+  get_byte_fn = record {
     lifetimes = 1;
     outlives = [];
     params = 2;
-    locals = value (ty E) ∷ value (lentTy R) ∷ value (ty_int w64) ∷ value ty_ptr ∷ value ty_ptr ∷ value (ty E) ∷ [];
+    locals = value (ty E) ∷ value (lent_ty R) ∷ value (ty_int w64) ∷ value ty_ptr ∷ value ty_ptr ∷ value (ty E) ∷ [];
     body =
         seq (assign (place 3 []) (addr_of (place_in r.part)))
         (seq (assign (place 4 []) (op2 offset (copy (place 3 [])) (copy (place 2 []))))
@@ -113,12 +113,12 @@ module _ {R E : Plain} {n : ℕ} (r : Row R E n) where
         return)));
   }
 
-  abbrev setAtFn : Fn
-  setAtFn = record {
+  abbrev set_at_fn : Fn
+  set_at_fn = record {
     lifetimes = 1;
     outlives = [];
     params = 3;
-    locals = value ty_unit ∷ value (lentTy R) ∷ value (ty_int w64) ∷ value (ty E) ∷ value (ty_int w64) ∷ value ty_ptr ∷ value ty_ptr ∷ [];
+    locals = value ty_unit ∷ value (lent_ty R) ∷ value (ty_int w64) ∷ value (ty E) ∷ value (ty_int w64) ∷ value ty_ptr ∷ value ty_ptr ∷ [];
     body =
         seq (assign (place 4 []) (op2 (mul unsigned) (copy (place 2 [])) (int w64 (size (ty E)))))
         (seq (assign (place 5 []) (addr_of (place_in r.part)))
@@ -128,12 +128,12 @@ module _ {R E : Plain} {n : ℕ} (r : Row R E n) where
         return))));
   }
 
-  abbrev setByteFn : Fn
-  setByteFn = record {
+  abbrev set_byte_fn : Fn
+  set_byte_fn = record {
     lifetimes = 1;
     outlives = [];
     params = 3;
-    locals = value ty_unit ∷ value (lentTy R) ∷ value (ty_int w64) ∷ value (ty E) ∷ value ty_ptr ∷ value ty_ptr ∷ [];
+    locals = value ty_unit ∷ value (lent_ty R) ∷ value (ty_int w64) ∷ value (ty E) ∷ value ty_ptr ∷ value ty_ptr ∷ [];
     body =
         seq (assign (place 4 []) (addr_of (place_in r.part)))
         (seq (assign (place 5 []) (op2 offset (copy (place 4 [])) (copy (place 2 []))))
@@ -185,20 +185,20 @@ module _ {M : Type 1} {𝓤 : Ura M} (𝓛 : Logic 𝓤) (R : Plain) (b o : ℕ)
 -- ---- the walks
 module _ {M : Type 1} {𝓤 : Ura M} (𝓛 : Logic 𝓤) (Ts : Tables 𝓤 𝓛.H) where
   module _ {R X : Plain} (p : Part R X) where
-    get-ok : OpenOk 𝓛 R (getter p) Ts (getFn p) []
+    get-ok : OpenOk 𝓛 R (getter p) Ts (get_fn p) []
     get-ok κ q b o γ t a is-a is need =
         let is_x = p.get-is t is in
         _ ⨟ (λ bs. of_opd ! (load ! (from ! (hop ! (look ! 2 refl) (p.goes b o (stop !)))) (reads 𝓛 R b o p t)))
         ⨟ has-type 𝓛 X (p.get t) is_x ⨟ _ ⨟ refl ⨟ is ⨟ (refl, is_x, refl, tt)
 
-    set-ok : OpenOk 𝓛 R (setter p) Ts (setFn p) []
+    set-ok : OpenOk 𝓛 R (setter p) Ts (set_fn p) []
     set-ok κ q b o γ t a is-a is need =
         let x = a.0 in
         p.put t x ⨟ (λ bs. (_, from ! (hop ! (look ! 2 refl) (p.goes b o (stop !))), writes 𝓛 R b o p t x is-a.0))
         ⨟ (tt, tt) ⨟ _ ⨟ refl ⨟ p.put_is t is x is-a.0 ⨟ (refl, refl, refl, tt)
 
   module _ {R E : Plain} {n : ℕ} (r : Row R E n) where
-    get-at-ok : OpenOk 𝓛 R (getter-at r) Ts (getAtFn r) (ty_int w64 ∷ ty_ptr ∷ ty_ptr ∷ ty E ∷ [])
+    get-at-ok : OpenOk 𝓛 R (getter-at r) Ts (get_at_fn r) (ty_int w64 ∷ ty_ptr ∷ ty_ptr ∷ ty E ∷ [])
     get-at-ok κ q b o γ t a is-a is h =
         let i = a.0 in
         let is_one = at-is r t is i h in
@@ -209,7 +209,7 @@ module _ {M : Type 1} {𝓤 : Ura M} (𝓛 : Logic 𝓤) (Ts : Tables 𝓤 𝓛.
         ⨟ _ ⨟ (λ bs. of_opd ! (load ! (from ! (hop ! (look ! 6 refl) (stop !))) (reads_at 𝓛 R b o r t is i h refl)))
         ⨟ typed ⨟ typed ⨟ _ ⨟ refl ⨟ is ⨟ (refl, is_one, refl, tt)
 
-    set-at-ok : OpenOk 𝓛 R (setter-at r) Ts (setAtFn r) (ty_int w64 ∷ ty_ptr ∷ ty_ptr ∷ [])
+    set-at-ok : OpenOk 𝓛 R (setter-at r) Ts (set_at_fn r) (ty_int w64 ∷ ty_ptr ∷ ty_ptr ∷ [])
     set-at-ok κ q b o γ t a is-a is h =
         let i = a.0 in
         let x = a.1.0 in
@@ -224,7 +224,7 @@ module _ {M : Type 1} {𝓤 : Ura M} (𝓛 : Logic 𝓤) (Ts : Tables 𝓤 𝓛.
       same_place : (i o : ℕ) → i * size (ty E) + o ≡ i + o
       same_place i o = subst (λ (m : ℕ). i * m + o ≡ i + o) (sym byte) (omega arith)
 
-      get-byte-ok : OpenOk 𝓛 R (getter-at r) Ts (getByteFn r) (ty_ptr ∷ ty_ptr ∷ ty E ∷ [])
+      get-byte-ok : OpenOk 𝓛 R (getter-at r) Ts (get_byte_fn r) (ty_ptr ∷ ty_ptr ∷ ty E ∷ [])
       get-byte-ok κ q b o γ t a is-a is h =
           let i = a.0 in
           let is_one = at-is r t is i h in
@@ -234,7 +234,7 @@ module _ {M : Type 1} {𝓤 : Ura M} (𝓛 : Logic 𝓤) (Ts : Tables 𝓤 𝓛.
           ⨟ (λ bs. of_opd ! (load ! (from ! (hop ! (look ! 5 refl) (stop !))) (reads_at 𝓛 R b o r t is i h (same_place i (r.part.off o)))))
           ⨟ typed ⨟ typed ⨟ _ ⨟ refl ⨟ is ⨟ (refl, is_one, refl, tt)
 
-      set-byte-ok : OpenOk 𝓛 R (setter-at r) Ts (setByteFn r) (ty_ptr ∷ ty_ptr ∷ [])
+      set-byte-ok : OpenOk 𝓛 R (setter-at r) Ts (set_byte_fn r) (ty_ptr ∷ ty_ptr ∷ [])
       set-byte-ok κ q b o γ t a is-a is h =
           let i = a.0 in
           let x = a.1.0 in
@@ -257,22 +257,22 @@ module _ {M : Type 1} {𝓤 : Ura M} (𝓛 : Logic 𝓤) (𝓜 : Model 𝓤 𝓛
   Meets R F = Triple 𝓤 (𝓡.run (ε name)) (LentMet R F 𝓛)
 
   module _ {R X : Plain} (p : Part R X) where
-    pub gets : IsCode (getFn p) → Meets R (getter p)
-    gets is = reading 𝓛 𝓜 𝓡 ε R (getter p) name (getFn p) is refl (get-ok (W 𝓛 𝓜 𝓡 ε) Ts p)
+    pub gets : IsCode (get_fn p) → Meets R (getter p)
+    gets is = reading 𝓛 𝓜 𝓡 ε R (getter p) name (get_fn p) is refl (get-ok (W 𝓛 𝓜 𝓡 ε) Ts p)
 
-    pub sets : IsCode (setFn p) → Meets R (setter p)
-    sets is = reading 𝓛 𝓜 𝓡 ε R (setter p) name (setFn p) is refl (set-ok (W 𝓛 𝓜 𝓡 ε) Ts p)
+    pub sets : IsCode (set_fn p) → Meets R (setter p)
+    sets is = reading 𝓛 𝓜 𝓡 ε R (setter p) name (set_fn p) is refl (set-ok (W 𝓛 𝓜 𝓡 ε) Ts p)
 
   -- `byte`, that an element has one byte, is `refl`
   module _ {R E : Plain} {n : ℕ} (r : Row R E n) where
-    pub gets-at : IsCode (getAtFn r) → Meets R (getter-at r)
-    gets-at is = reading 𝓛 𝓜 𝓡 ε R (getter-at r) name (getAtFn r) is refl (get-at-ok (W 𝓛 𝓜 𝓡 ε) Ts r)
+    pub gets-at : IsCode (get_at_fn r) → Meets R (getter-at r)
+    gets-at is = reading 𝓛 𝓜 𝓡 ε R (getter-at r) name (get_at_fn r) is refl (get-at-ok (W 𝓛 𝓜 𝓡 ε) Ts r)
 
-    pub sets-at : IsCode (setAtFn r) → Meets R (setter-at r)
-    sets-at is = reading 𝓛 𝓜 𝓡 ε R (setter-at r) name (setAtFn r) is refl (set-at-ok (W 𝓛 𝓜 𝓡 ε) Ts r)
+    pub sets-at : IsCode (set_at_fn r) → Meets R (setter-at r)
+    sets-at is = reading 𝓛 𝓜 𝓡 ε R (setter-at r) name (set_at_fn r) is refl (set-at-ok (W 𝓛 𝓜 𝓡 ε) Ts r)
 
-    pub gets-byte : size (ty E) ≡ 1 → IsCode (getByteFn r) → Meets R (getter-at r)
-    gets-byte byte is = reading 𝓛 𝓜 𝓡 ε R (getter-at r) name (getByteFn r) is refl (get-byte-ok (W 𝓛 𝓜 𝓡 ε) Ts r byte)
+    pub gets-byte : size (ty E) ≡ 1 → IsCode (get_byte_fn r) → Meets R (getter-at r)
+    gets-byte byte is = reading 𝓛 𝓜 𝓡 ε R (getter-at r) name (get_byte_fn r) is refl (get-byte-ok (W 𝓛 𝓜 𝓡 ε) Ts r byte)
 
-    pub sets-byte : size (ty E) ≡ 1 → IsCode (setByteFn r) → Meets R (setter-at r)
-    sets-byte byte is = reading 𝓛 𝓜 𝓡 ε R (setter-at r) name (setByteFn r) is refl (set-byte-ok (W 𝓛 𝓜 𝓡 ε) Ts r byte)
+    pub sets-byte : size (ty E) ≡ 1 → IsCode (set_byte_fn r) → Meets R (setter-at r)
+    sets-byte byte is = reading 𝓛 𝓜 𝓡 ε R (setter-at r) name (set_byte_fn r) is refl (set-byte-ok (W 𝓛 𝓜 𝓡 ε) Ts r byte)

@@ -39,7 +39,7 @@ use denote.Triple.Spec.{Meets, triple_of}
 use denote.Triple.Statement.{Contract, Triple}
 use denote.Triple.Table.{entered, cited}
 use denote.Triple.Walked.{Stays, stay_ref, stay_none_ref, walk_of, Goes-ref, Goes-none_ref, Walks, ends_at, walked, walk_Meets}
-use Rattle.walks.proofs.Access.{lentTy}
+use Rattle.walks.proofs.Access.{lent_ty}
 use Rattle.walks.proofs.Callees.{lent-does}
 use Rattle.walks.proofs.Element.{cooked}
 use Rattle.walks.proofs.Frame.{tys_of, Done, runs-opened}
@@ -50,8 +50,8 @@ use Rattle.walks.proofs.Walk.{◌⨟◌, Ok}
 
 module _ (T U R : Plain) (res : Of T → Of U → Of R) (after : Of T → Of U → Of T) where
   -- ---- the contract: `ensures { λ r. ⌜ (r ≡ res) × (now v.exit ≡ after) ⌝ }`, of the T at entry and of the U
-  abbrev bothEnded : Ended
-  bothEnded = record {
+  abbrev both_ended : Ended
+  both_ended = record {
     signature = record {
       lifetimes = 2;
       outlives = [];
@@ -61,32 +61,32 @@ module _ (T U R : Plain) (res : Of T → Of U → Of R) (after : Of T → Of U �
     kept = (yes, (yes, tt));
   }
 
-  abbrev bothClauses : {M : Type 1} (𝓤 : Ura M) → Clauses 𝓤 bothEnded
-  bothClauses 𝓤 κs a = record {
+  abbrev both_clauses : {M : Type 1} (𝓤 : Ura M) → Clauses 𝓤 both_ended
+  both_clauses 𝓤 κs a = record {
     ghost = Unit {0};
     requires = λ g. emp 𝓤;
     ensures = λ g r end. fact 𝓤 ((r ≡ res a.0.now a.1.0.now) × (end.0.now ≡ after a.0.now a.1.0.now));
   }
 
   abbrev pub BothMet : {M : Type 1} {𝓤 : Ura M} (𝓛 : Logic 𝓤) → Contract 𝓤
-  BothMet {𝓤 = 𝓤} 𝓛 = triple_of 𝓛 bothEnded.signature (closing 𝓛 bothEnded (bothClauses 𝓤))
+  BothMet {𝓤 = 𝓤} 𝓛 = triple_of 𝓛 both_ended.signature (closing 𝓛 both_ended (both_clauses 𝓤))
 
   -- ---- the function
   abbrev value : Ty → Local
   value τ = local τ value_local
 
-  abbrev sharedTy : Ty
-  sharedTy = ty_ref (named 1) imm (pointee U.F.row.written)
+  abbrev shared_ty : Ty
+  shared_ty = ty_ref (named 1) imm (pointee U.F.row.written)
 
-  abbrev againTy : Ty
-  againTy = ty_ref erased mut (pointee T.F.row.written)
+  abbrev again_ty : Ty
+  again_ty = ty_ref erased mut (pointee T.F.row.written)
 
-  abbrev passFn : Name → Fn
-  passFn g = record {
+  abbrev pass_fn : Name → Fn
+  pass_fn g = record {
     lifetimes = 2;
     outlives = [];
     params = 2;
-    locals = value (ty R) ∷ value (lentTy T) ∷ value sharedTy ∷ value againTy ∷ value (ty U) ∷ [];
+    locals = value (ty R) ∷ value (lent_ty T) ∷ value shared_ty ∷ value again_ty ∷ value (ty U) ∷ [];
     body =
         seq (assign (place 3 []) (addr_of (place 1 (deref (ty T) ∷ []))))
         (seq (assign (place 4 []) (rv_opd (copy (place 2 (deref (ty U) ∷ [])))))
@@ -101,10 +101,10 @@ module _ (T U R : Plain) (res : Of T → Of U → Of R) (after : Of T → Of U �
   module _ {M : Type 1} {𝓤 : Ura M} (𝓛 : Logic 𝓤) where
     open 𝓛 use {H}
 
-    abbrev Cl : Clauses 𝓤 bothEnded
-    Cl = bothClauses 𝓤
+    abbrev Cl : Clauses 𝓤 both_ended
+    Cl = both_clauses 𝓤
 
-    abbrev hs : Stays bothEnded.signature.params bothEnded.kept
+    abbrev hs : Stays both_ended.signature.params both_ended.kept
     hs = (stay_ref (0 ∷ []) tt (plain (λ κs. row_of T)), (stay_none_ref (1 ∷ []) tt (plain (λ κs. row_of U)) yes, tt))
 
     -- what is lent: of the T lifetime, share, place, name and value, and the same of the U
@@ -115,14 +115,14 @@ module _ (T U R : Plain) (res : Of T → Of U → Of R) (after : Of T → Of U �
       abbrev shared : Bor (Of U)
       shared = record { ref_ptr = (b₁, o₁); ghost_name = γ₁; now = u }
 
-      abbrev args : Arguments bothEnded.signature lfts
+      abbrev args : Arguments both_ended.signature lfts
       args = (ref 𝓛 T κ q b o γ t, (shared, tt))
 
-      abbrev bound : (walk_of 𝓛 bothEnded hs Cl).Ghost
+      abbrev bound : (walk_of 𝓛 both_ended hs Cl).Ghost
       bound = ((lfts, (q, (q₁, tt)), tt, args, (vptr b o ∷ [], (vptr b₁ o₁ ∷ [], tt))), tt)
 
       abbrev Post : Val → SProp 𝓤
-      Post = (walk_of 𝓛 bothEnded hs Cl).post bound
+      Post = (walk_of 𝓛 both_ended hs Cl).post bound
 
       abbrev shr-own : Fml
       shr-own = (ShrRef (named 1) κ₁ (row_of U)).own_val shared (vptr b₁ o₁ ∷ [])
@@ -134,7 +134,7 @@ module _ (T U R : Plain) (res : Of T → Of U → Of R) (after : Of T → Of U �
       HeldAt s t' = sep 𝓤 (mean 𝓛 (closed 𝓛 T κ q b o γ t')) (⋆ 𝓛 (opened s))
 
       abbrev Entry : SProp 𝓤
-      Entry = on_entry 𝓛 bothEnded.signature lfts (q, (q₁, tt)) args (vptr b o ∷ [], (vptr b₁ o₁ ∷ [], tt))
+      Entry = on_entry 𝓛 both_ended.signature lfts (q, (q₁, tt)) args (vptr b o ∷ [], (vptr b₁ o₁ ∷ [], tt))
 
       opens-it : ent 𝓤 Entry (H.⇛ (ex 𝓤 (λ (s : Share). guard 𝓤 (IsOf U u) (HeldAt s t))))
       opens-it =
@@ -160,7 +160,7 @@ module _ (T U R : Plain) (res : Of T → Of U → Of R) (after : Of T → Of U �
           by ! (
           qed 𝓛 (‵ (flft κ₁ q₁) ∷ closed 𝓛 T κ q b o γ (after t u) ∷ ‵ (fshr_bor κ₁ (λ p. part_at (row_of U) p u b₁ o₁)) ∷
           ‵ (fres γ₁ ((coded U).code u)) ∷ []) ∵
-          suffices ! _ (ends_at 𝓛 bothEnded hs Cl bound (val R (res t u)) (res t u) (after t u, (tt, tt)) (tt, (tt, tt))) $
+          suffices ! _ (ends_at 𝓛 both_ended hs Cl bound (val R (res t u)) (res t u) (after t u, (tt, tt)) (tt, (tt, tt))) $
           suffices ! _ (beside 𝓤 _ (fact_i 𝓤 _ (emp 𝓤) (refl, refl))) $
           move ! (1 ∷ []) $ split ! $ nothing ! $ move ! (3 ∷ 0 ∷ []) $ join ! $ move ! (2 ∷ 0 ∷ []) $ join ! $ frame ! $
           -- [the reference; the shared borrow; the last value]
@@ -183,9 +183,9 @@ module _ (T U R : Plain) (res : Of T → Of U → Of R) (after : Of T → Of U �
           (cooked ! (ty U) (whole !)))
 
       module _ (Ts : Tables 𝓤 H) (g : Name) (met : Triple 𝓤 (Ts.C g) (LentMet T F 𝓛)) where
-        walk : ent 𝓤 Entry (WpFn 𝓤 H Ts.C Ts.Λ (passFn g) (vptr b o ∷ vptr b₁ o₁ ∷ []) Post)
+        walk : ent 𝓤 Entry (WpFn 𝓤 H Ts.C Ts.Λ (pass_fn g) (vptr b o ∷ vptr b₁ o₁ ∷ []) Post)
         walk =
-            runs-opened 𝓛 Ts (Of T) Share (λ _. closed 𝓛 T κ q b o γ) opened (passFn g) (ty R) (lentTy T ∷ sharedTy ∷ againTy ∷ ty U ∷ []) refl
+            runs-opened 𝓛 Ts (Of T) Share (λ _. closed 𝓛 T κ q b o γ) opened (pass_fn g) (ty R) (lent_ty T ∷ shared_ty ∷ again_ty ∷ ty U ∷ []) refl
             (vptr b o ∷ vptr b₁ o₁ ∷ []) ((tt, tt), ((tt, tt), tt)) Entry (IsOf U u) t opens-it Returns Post ends
             (λ s is.
             (tt, tt)
@@ -195,28 +195,28 @@ module _ (T U R : Plain) (res : Of T → Of U → Of R) (after : Of T → Of U �
 
     module _ (Ts : Tables 𝓤 H) (g : Name) (met : Triple 𝓤 (Ts.C g) (LentMet T F 𝓛)) where
       abbrev Run : List Val → (Val → SProp 𝓤) → SProp 𝓤
-      Run = WpFn 𝓤 H Ts.C Ts.Λ (passFn g)
+      Run = WpFn 𝓤 H Ts.C Ts.Λ (pass_fn g)
 
-      walks-it : Walks 𝓛 bothEnded hs Run Cl
+      walks-it : Walks 𝓛 both_ended hs Run Cl
       walks-it =
-          walked 𝓛 bothEnded hs Cl Run (λ κs. (shr_vals, (shr_vals, tt)))
+          walked 𝓛 both_ended hs Cl Run (λ κs. (shr_vals, (shr_vals, tt)))
           (λ κs. (mut_Tells (named 0) κs.0 (row_of T), (shr_Tells (named 1) κs.1.0 (row_of U), tt)))
           (λ κs qs bounds a g' are. via 𝓤 _ (fst∗ 𝓤 _ (emp 𝓤))
           (walk κs.0 qs.0 a.0.ref_ptr.0 a.0.ref_ptr.1 a.0.ghost_name a.0.now
           κs.1.0 qs.1.0 a.1.0.ref_ptr.0 a.1.0.ref_ptr.1 a.1.0.ghost_name a.1.0.now Ts g met))
 
-      meets-it : Meets 𝓛 bothEnded.signature Run (closing 𝓛 bothEnded Cl)
+      meets-it : Meets 𝓛 both_ended.signature Run (closing 𝓛 both_ended Cl)
       meets-it =
-          walk_Meets 𝓛 bothEnded hs (
+          walk_Meets 𝓛 both_ended hs (
             Goes-ref 𝓛 2 0 tt (plain (λ κs. row_of T)),
             (Goes-none_ref 𝓛 2 (1 ∷ []) tt (plain (λ κs. row_of U)) yes, tt),
-          ) Cl Run (WpFn-mono 𝓤 H 𝓛.laws Ts (passFn g)) walks-it
+          ) Cl Run (WpFn-mono 𝓤 H 𝓛.laws Ts (pass_fn g)) walks-it
 
   -- ---- what the function's own proof cites
   pub passes-read : {M : Type 1} {𝓤 : Ura M} (𝓛 : Logic 𝓤) (𝓜 : Model 𝓤 𝓛.H) (𝓡 : Running 𝓤 𝓛.H 𝓜) (ε : Routines) (f g : Name)
-      → Closed 𝓤 𝓛.H (tables 𝓤 𝓛.H 𝓜 𝓡 ε).C (tables 𝓤 𝓛.H 𝓜 𝓡 ε).Λ f (passFn g)
+      → Closed 𝓤 𝓛.H (tables 𝓤 𝓛.H 𝓜 𝓡 ε).C (tables 𝓤 𝓛.H 𝓜 𝓡 ε).Λ f (pass_fn g)
       → (r : Routine) → ε g ≡ r → Triple 𝓤 (𝓡.run r) (LentMet T F 𝓛) → Triple 𝓤 (𝓡.run (ε f)) (BothMet 𝓛)
   unfolding tables_of
   passes-read {𝓤 = 𝓤} 𝓛 𝓜 𝓡 ε f g is r e met =
-      entered 𝓤 𝓛.H (BothMet 𝓛) (tables 𝓤 𝓛.H 𝓜 𝓡 ε).C (tables 𝓤 𝓛.H 𝓜 𝓡 ε).Λ f (passFn g) is
+      entered 𝓤 𝓛.H (BothMet 𝓛) (tables 𝓤 𝓛.H 𝓜 𝓡 ε).C (tables 𝓤 𝓛.H 𝓜 𝓡 ε).Λ f (pass_fn g) is
       (meets-it (W 𝓛 𝓜 𝓡 ε) (𝓣 𝓛 𝓜 𝓡 ε) g (cited 𝓤 𝓛.H (LentMet T F 𝓛) 𝓜 𝓡 ε g r e met))

@@ -33,7 +33,7 @@ use denote.Triple.Table.{cited}
 use Rattle.walks.proofs.Walk.{Callee, Does}
 use Rattle.walks.proofs.Plain.{Plain, Of, ty, val, own, coded, row_of, IsOf, has-type, at-val, Args, AreOf, vals, slots, to, fro, fro-to}
 use Rattle.walks.proofs.Plain.{vss, flat-is, owns-all}
-use Rattle.walks.proofs.Lent.{LentFn, PlainFn, Asked, asked, asked_in, ended, clauses, LentMet, plainEnded, plainClauses, PlainMet}
+use Rattle.walks.proofs.Lent.{LentFn, PlainFn, Asked, asked, asked_in, ended, clauses, LentMet, plain_ended, plain_clauses, PlainMet}
 use Rattle.walks.proofs.Lent.{ref, own-at, closed, W, 𝓣}
 
 -- ---- what a caller sees
@@ -171,11 +171,11 @@ module _ {M : Type 1} {𝓤 : Ura M} (𝓛 : Logic 𝓤) (Ts : Tables 𝓤 𝓛.
           (subst (λ (x : Args F.Ps). Asked F.pre x) (sym (fro-to 0 tt F.Ps a)) need)) $ move ! (1 ∷ 0 ∷ []) $ done !
 
       abbrev Told : Of F.R → SProp 𝓤
-      Told r = ensured 𝓛 (plainEnded F) (plainClauses F 𝓤) tt (to 0 tt F.Ps a) tt r
+      Told r = ensured 𝓛 (plain_ended F) (plain_clauses F 𝓤) tt (to 0 tt F.Ps a) tt r
 
       tells : (r : Of F.R) → ent 𝓤 (Told r) (fact 𝓤 (r ≡ F.res a))
       tells r = ex_e 𝓤 _ (λ ws.
-          let N : SProp 𝓤 = sem 𝓛 (lasts (plainEnded F) tt (to 0 tt F.Ps a) ws) in
+          let N : SProp 𝓤 = sem 𝓛 (lasts (plain_ended F) tt (to 0 tt F.Ps a) ws) in
           subst (λ (x : Args F.Ps). ent 𝓤 (sep 𝓤 N (fact 𝓤 (r ≡ F.res x))) (fact 𝓤 (r ≡ F.res a))) (sym (fro-to 0 tt F.Ps a))
           (snd∗ 𝓤 N (fact 𝓤 (r ≡ F.res a))))
 

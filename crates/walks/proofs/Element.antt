@@ -101,10 +101,10 @@ module _ {M : Type 1} {𝓤 : Ura M} {𝓛 : Logic 𝓤} {K : Type 0} where
       Whole : Val → SProp 𝓤
       Whole w = wand 𝓤 (H.at q (ty_array τ n) b o w) (mean 𝓛 (back w))
 
-getD-mapped : {X Y : Type 0} (f : X → Y) (xs : List X) (j : ℕ) (d : X) (e : Y) → j < length xs → get_or (map f xs) j e ≡ f (get_or xs j d)
-getD-mapped f [] j d e h = absurd (not-suc-le-zero h)
-getD-mapped f (x ∷ xs) zero d e h = refl
-getD-mapped f (x ∷ xs) (suc j) d e h = getD-mapped f xs j d e (le_of_suc-le-suc h)
+get_or-mapped : {X Y : Type 0} (f : X → Y) (xs : List X) (j : ℕ) (d : X) (e : Y) → j < length xs → get_or (map f xs) j e ≡ f (get_or xs j d)
+get_or-mapped f [] j d e h = absurd (not-suc-le-zero h)
+get_or-mapped f (x ∷ xs) zero d e h = refl
+get_or-mapped f (x ∷ xs) (suc j) d e h = get_or-mapped f xs j d e (le_of_suc-le-suc h)
 
 pub set-mapped : {X Y : Type 0} (f : X → Y) (xs : List X) (j : ℕ) (x : X) → set (map f xs) j (f x) ≡ map f (set xs j x)
 set-mapped f [] j x = refl
@@ -118,6 +118,6 @@ pub element : {M : Type 1} {𝓤 : Ura M} {𝓛 : Logic 𝓤} {K : Type 0} {X : 
     → Within K 𝓛 i q τ b a (low (get_or xs j d)) (λ u. back (vstruct (of_list (set (map low xs) j u))))
 element {𝓛 = 𝓛} {K = K} t low xs j d {i} {q} {τ} {n} {b} {o} {back} long h {a} there p =
     subst (λ (v : Val). Within K 𝓛 i q τ b a v (λ u. back (vstruct (of_list (set (map low xs) j u)))))
-    (getD-mapped low xs j d vunit (subst (λ (m : ℕ). j < m) (sym long) h))
+    (get_or-mapped low xs j d vunit (subst (λ (m : ℕ). j < m) (sym long) h))
     (subst (λ (c : ℕ). Within K 𝓛 i q τ b c (get_or (map low xs) j vunit) (λ u. back (vstruct (of_list (set (map low xs) j u))))) there
     (item t (map low xs) j (length-map xs low ∙ long) h p))

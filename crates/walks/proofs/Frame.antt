@@ -17,7 +17,7 @@ use types.Logic.{Logic}
 use types.Kit.{Item, ‵, raw, some, later, given, mean, push, pop, ++⊢, ⊢++, ◌⊛◌, any_q, Go, !, ◌$◌, ◌∵◌, qed, by, use1, use2, await}
 use types.Kit.{pick, learn, move, split, join, done, frame}
 use types.Run.{look, exec}
-use Rattle.walks.proofs.Locals.{Locals, Blocks, HasType, HaveTypes, somes, val_at, Stars, env, roomOf, cell_of, cells, dies, cell-at, room_of}
+use Rattle.walks.proofs.Locals.{Locals, Blocks, HasType, HaveTypes, somes, val_at, Stars, env, room_of, cell_of, cells, dies, cell-at, room_of_lem}
 use Rattle.walks.proofs.Walk.{Then, one, two, Stuck, Ok, ok-runs, Context, Ends}
 
 abbrev pub tys_of : List Local → List Ty
@@ -46,11 +46,11 @@ module _ {M : Type 1} {𝓤 : Ura M} (𝓛 : Logic 𝓤) where
       (allocs-all ls (sep 𝓤 P (New b)) (λ E. K ((τ, b) ∷ E)) (λ bs.
       let R : List (Item 𝓤) = cells 𝓛 (tys_of ls) bs [] in
       let D : List (Item 𝓤) = dies 𝓛 (tys_of ls) bs in
-      via 𝓤 (sep 𝓤 (sep 𝓤 (Stars 𝓛 (roomOf 𝓛 τ b ∷ R)) (Stars 𝓛 (dying τ b ∷ D))) P)
-      (qed 𝓛 ((raw (Stars 𝓛 R) ⊛ raw (Stars 𝓛 D)) ∷ (raw P ⊛ roomOf 𝓛 τ b ⊛ dying τ b) ∷ []) ∵ split ! $ move ! (2 ∷ []) $ split ! $
+      via 𝓤 (sep 𝓤 (sep 𝓤 (Stars 𝓛 (room_of 𝓛 τ b ∷ R)) (Stars 𝓛 (dying τ b ∷ D))) P)
+      (qed 𝓛 ((raw (Stars 𝓛 R) ⊛ raw (Stars 𝓛 D)) ∷ (raw P ⊛ room_of 𝓛 τ b ⊛ dying τ b) ∷ []) ∵ split ! $ move ! (2 ∷ []) $ split ! $
       move ! (1 ∷ []) $ split ! $
       -- [room; dies; P; the rooms; the others die]
-      move ! (0 ∷ 3 ∷ []) $ use2 𝓛 (raw (Stars 𝓛 (roomOf 𝓛 τ b ∷ R))) (push 𝓛 (roomOf 𝓛 τ b) R) $
+      move ! (0 ∷ 3 ∷ []) $ use2 𝓛 (raw (Stars 𝓛 (room_of 𝓛 τ b ∷ R))) (push 𝓛 (room_of 𝓛 τ b) R) $
       move ! (1 ∷ 3 ∷ []) $ use2 𝓛 (raw (Stars 𝓛 (dying τ b ∷ D))) (push 𝓛 (dying τ b) D) $ move ! (1 ∷ 0 ∷ []) $ join ! $ done !)
       (h (b, bs)))))
 
@@ -69,7 +69,7 @@ module _ {M : Type 1} {𝓤 : Ura M} (𝓛 : Logic 𝓤) where
       let G : SProp 𝓤 = pass 𝓤 H (env 𝓛 σs cs.1) vs K in
       via 𝓤 (sep 𝓤 Room (wand 𝓤 At G))
       (via 𝓤 (sep 𝓤 Room (sep 𝓤 (Stars 𝓛 R) P))
-      (via 𝓤 (sep 𝓤 (sep 𝓤 Room (Stars 𝓛 R)) P) (mono_l 𝓤 P (pop 𝓛 (roomOf 𝓛 σ cs.0) R)) (assoc∗ 𝓤 Room (Stars 𝓛 R) P))
+      (via 𝓤 (sep 𝓤 (sep 𝓤 Room (Stars 𝓛 R)) P) (mono_l 𝓤 P (pop 𝓛 (room_of 𝓛 σ cs.0) R)) (assoc∗ 𝓤 Room (Stars 𝓛 R) P))
       (mono_r 𝓤 Room (wand_i 𝓤 (sep 𝓤 (Stars 𝓛 R) P) At G
       (via 𝓤 (sep 𝓤 (Stars 𝓛 R) (sep 𝓤 P At)) (assoc∗ 𝓤 (Stars 𝓛 R) P At)
       (passes-all σs cs.1 vs (sep 𝓤 P At) K w.1
@@ -84,7 +84,7 @@ module _ {M : Type 1} {𝓤 : Ura M} (𝓛 : Logic 𝓤) where
   frees-one σ b x R D P G h =
       let c : Item 𝓤 = cell_of 𝓛 σ b x in
       qed 𝓛 ((raw (Stars 𝓛 (c ∷ R)) ⊛ raw (Stars 𝓛 (dying σ b ∷ D))) ∷ raw P ∷ []) ∵ split ! $
-      use1 𝓛 (c ⊛ raw (Stars 𝓛 R)) (pop 𝓛 c R) $ split ! $ use1 𝓛 (roomOf 𝓛 σ b) (room_of 𝓛 σ b x) $ move ! (2 ∷ []) $
+      use1 𝓛 (c ⊛ raw (Stars 𝓛 R)) (pop 𝓛 c R) $ split ! $ use1 𝓛 (room_of 𝓛 σ b) (room_of_lem 𝓛 σ b x) $ move ! (2 ∷ []) $
       use1 𝓛 (dying σ b ⊛ raw (Stars 𝓛 D)) (pop 𝓛 (dying σ b) D) $ split ! $
       -- [dies; the others die; room; the other rooms; P]
       move ! (2 ∷ 0 ∷ []) $ join ! $ frame ! $ move ! (1 ∷ 0 ∷ []) $ join ! $ by ! h
@@ -167,7 +167,7 @@ module _ {M : Type 1} {𝓤 : Ura M} (𝓛 : Logic 𝓤) where
         enters bs =
             let R : List (Item 𝓤) = cells 𝓛 σs bs.1 [] in
             let N : List (Item 𝓤) = cells 𝓛 σs bs.1 (somes vs) in
-            let room : Item 𝓤 = roomOf 𝓛 τ bs.0 in
+            let room : Item 𝓤 = room_of 𝓛 τ bs.0 in
             let Y : SProp 𝓤 = Stars 𝓛 (dies 𝓛 (τ ∷ σs) bs) in
             let start : Locals = none ∷ somes vs in
             via 𝓤 (sep 𝓤 (Stars 𝓛 R) (sep 𝓤 (mean 𝓛 room) (sep 𝓤 Y P)))

@@ -137,21 +137,21 @@ module _ (T : Plain) (F : LentFn T) where
   abbrev pub LentMet : {M : Type 1} {𝓤 : Ura M} (𝓛 : Logic 𝓤) → Contract 𝓤
   LentMet {𝓤 = 𝓤} 𝓛 = triple_of 𝓛 ended.signature (closing 𝓛 ended (clauses 𝓤))
 
-abbrev pub plainEnded : PlainFn → Ended
-plainEnded F = record {
+abbrev pub plain_ended : PlainFn → Ended
+plain_ended F = record {
   signature = record { lifetimes = 0; outlives = []; params = slots 0 F.Ps; result = plain (λ κs. row_of F.R) };
   kept = kepts 0 F.Ps;
 }
 
-abbrev pub plainClauses : (F : PlainFn) {M : Type 1} (𝓤 : Ura M) → Clauses 𝓤 (plainEnded F)
-plainClauses F 𝓤 κs a = record {
+abbrev pub plain_clauses : (F : PlainFn) {M : Type 1} (𝓤 : Ura M) → Clauses 𝓤 (plain_ended F)
+plain_clauses F 𝓤 κs a = record {
   ghost = Unit {0};
   requires = λ g. asked 𝓤 F.pre (fro 0 κs F.Ps a);
   ensures = λ g r end. fact 𝓤 (r ≡ F.res (fro 0 κs F.Ps a));
 }
 
 abbrev pub PlainMet : (F : PlainFn) {M : Type 1} {𝓤 : Ura M} (𝓛 : Logic 𝓤) → Contract 𝓤
-PlainMet F {𝓤 = 𝓤} 𝓛 = triple_of 𝓛 (plainEnded F).signature (closing 𝓛 (plainEnded F) (plainClauses F 𝓤))
+PlainMet F {𝓤 = 𝓤} 𝓛 = triple_of 𝓛 (plain_ended F).signature (closing 𝓛 (plain_ended F) (plain_clauses F 𝓤))
 
 -- ---- what is had of the reference: closed, as it is passed, and opened, as its memory with what closes it again
 module _ {M : Type 1} {𝓤 : Ura M} (𝓛 : Logic 𝓤) (T : Plain) (κ : Lft) (q : Share) (b o : ℕ) (γ : GName) where
@@ -263,11 +263,11 @@ module _ {M : Type 1} {𝓤 : Ura M} (𝓛 : Logic 𝓤) (T : Plain) (F : LentFn
   abbrev ref_ty : Ty
   ref_ty = ty_ref (named 0) mut (pointee T.F.row.written)
 
-  abbrev pub localTys : List Ty → List Ty
-  localTys ρs = ty F.R ∷ ref_ty ∷ (tys F.Ps ++ ρs)
+  abbrev pub local_tys : List Ty → List Ty
+  local_tys ρs = ty F.R ∷ ref_ty ∷ (tys F.Ps ++ ρs)
 
   abbrev pub Shape : Fn → List Ty → Type 0
-  Shape f ρs = tys_of f.locals ≡ localTys ρs
+  Shape f ρs = tys_of f.locals ≡ local_tys ρs
 
   module _ (𝓣 : Tables 𝓤 H) (f : Fn) (ρs : List Ty) where
     abbrev Run : List Val → (Val → SProp 𝓤) → SProp 𝓤
@@ -277,15 +277,15 @@ module _ {M : Type 1} {𝓤 : Ura M} (𝓛 : Logic 𝓤) (T : Plain) (F : LentFn
     abbrev pub ClosedOk : Type 2
     ClosedOk =
         (κ : Lft) (q : Share) (b o : ℕ) (γ : GName) (t : Of T) (a : Args F.Ps) → AreOf F.Ps a → IsOf T t → Asked F.pre (t, a)
-        → Ok 𝓛 𝓣 (Of T) (closed 𝓛 T κ q b o γ) [] (localTys ρs) f.body
-        (Done 𝓛 𝓣 (Of T) (closed 𝓛 T κ q b o γ) [] (localTys ρs) (Returns T F t a)) (t, none ∷ Opt.some (vptr b o) ∷ somes (vals F.Ps a))
+        → Ok 𝓛 𝓣 (Of T) (closed 𝓛 T κ q b o γ) [] (local_tys ρs) f.body
+        (Done 𝓛 𝓣 (Of T) (closed 𝓛 T κ q b o γ) [] (local_tys ρs) (Returns T F t a)) (t, none ∷ Opt.some (vptr b o) ∷ somes (vals F.Ps a))
 
     -- a body that reads and writes, with the borrow open
     abbrev pub OpenOk : Type 2
     OpenOk =
         (κ : Lft) (q : Share) (b o : ℕ) (γ : GName) (t : Of T) (a : Args F.Ps) → AreOf F.Ps a → IsOf T t → Asked F.pre (t, a)
-        → Ok 𝓛 𝓣 (Of T) (opened 𝓛 T κ q b o γ) (kept-open 𝓛 T κ q b o γ t) (localTys ρs) f.body
-        (Done 𝓛 𝓣 (Of T) (opened 𝓛 T κ q b o γ) (kept-open 𝓛 T κ q b o γ t) (localTys ρs)
+        → Ok 𝓛 𝓣 (Of T) (opened 𝓛 T κ q b o γ) (kept-open 𝓛 T κ q b o γ t) (local_tys ρs) f.body
+        (Done 𝓛 𝓣 (Of T) (opened 𝓛 T κ q b o γ) (kept-open 𝓛 T κ q b o γ t) (local_tys ρs)
         (λ v t'. Then (IsOf T t') (λ _. Returns T F t a v t'))) (t, none ∷ Opt.some (vptr b o) ∷ somes (vals F.Ps a))
 
     module _ (Shape-is : Shape f ρs) where

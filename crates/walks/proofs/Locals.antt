@@ -97,17 +97,17 @@ module _ {M : Type 1} {𝓤 : Ura M} (𝓛 : Logic 𝓤) where
   env [] bs = []
   env (τ ∷ τs) bs = (τ, bs.0) ∷ env τs bs.1
 
-  abbrev pub roomOf : Ty → ℕ → Item 𝓤
-  roomOf τ b = ‵ (froom τ b zero)
+  abbrev pub room_of : Ty → ℕ → Item 𝓤
+  room_of τ b = ‵ (froom τ b zero)
 
   abbrev pub cell_of : Ty → ℕ → Option Val → Item 𝓤
-  cell_of τ b none = roomOf τ b
+  cell_of τ b none = room_of τ b
   cell_of τ b (Opt.some v) = ‵ (fat full_share τ b zero v)
 
   -- all locals' cells, and what frees them
   abbrev pub cells : (τs : List Ty) → Blocks τs → Locals → List (Item 𝓤)
   cells [] bs ls = []
-  cells (τ ∷ τs) bs [] = roomOf τ bs.0 ∷ cells τs bs.1 []
+  cells (τ ∷ τs) bs [] = room_of τ bs.0 ∷ cells τs bs.1 []
   cells (τ ∷ τs) bs (x ∷ ls) = cell_of τ bs.0 x ∷ cells τs bs.1 ls
 
   abbrev pub dies : (τs : List Ty) → Blocks τs → List (Item 𝓤)
@@ -147,7 +147,7 @@ module _ {M : Type 1} {𝓤 : Ura M} (𝓛 : Logic 𝓤) where
   put_is [] bs ls X i v h = absurd h
   put_is (τ ∷ τs) bs [] X zero v h = refl
   put_is (τ ∷ τs) bs (x ∷ ls) X zero v h = refl
-  put_is (τ ∷ τs) bs [] X (suc i) v h = ap (λ (Γ : List (Item 𝓤)). roomOf τ bs.0 ∷ Γ) (put_is τs bs.1 [] X i v h)
+  put_is (τ ∷ τs) bs [] X (suc i) v h = ap (λ (Γ : List (Item 𝓤)). room_of τ bs.0 ∷ Γ) (put_is τs bs.1 [] X i v h)
   put_is (τ ∷ τs) bs (x ∷ ls) X (suc i) v h = ap (λ (Γ : List (Item 𝓤)). cell_of τ bs.0 x ∷ Γ) (put_is τs bs.1 ls X i v h)
 
   pub cell-at : (τs : List Ty) (bs : Blocks τs) (ls : Locals) (X : List (Item 𝓤)) (i : ℕ) (v : Val) → val_at τs ls i ≡ Opt.some v
@@ -155,6 +155,6 @@ module _ {M : Type 1} {𝓤 : Ura M} (𝓛 : Logic 𝓤) where
   cell-at τs bs ls X i v e = nth-is τs bs ls X i (at_in τs ls i v e) ∙ ap (cell_at τs bs i) e
 
   -- a cell, whatever it holds, is room
-  pub room_of : (τ : Ty) (b : ℕ) (x : Option Val) → ent 𝓤 (mean 𝓛 (cell_of τ b x)) (H.room τ b zero)
-  room_of τ b none = id⊢ 𝓤 (H.room τ b zero)
-  room_of τ b (Opt.some v) = 𝓛.laws.at_room τ b zero v
+  pub room_of_lem : (τ : Ty) (b : ℕ) (x : Option Val) → ent 𝓤 (mean 𝓛 (cell_of τ b x)) (H.room τ b zero)
+  room_of_lem τ b none = id⊢ 𝓤 (H.room τ b zero)
+  room_of_lem τ b (Opt.some v) = 𝓛.laws.at_room τ b zero v

@@ -50,13 +50,13 @@ use denote.Triple.Table.{entered}
 use denote.Triple.Walked.{Stays, walk_of, Walks, has_of, ends_at, walked, walk_Meets}
 use Rattle.walks.proofs.Callees.{on}
 use Rattle.walks.proofs.Frame.{tys_of, Done, ends, runs-body}
-use Rattle.walks.proofs.Lent.{LentFn, PlainFn, Asked, asked-out, beside, own-at, closed, plainEnded, plainClauses, PlainMet, past, skip}
+use Rattle.walks.proofs.Lent.{LentFn, PlainFn, Asked, asked-out, beside, own-at, closed, plain_ended, plain_clauses, PlainMet, past, skip}
 use Rattle.walks.proofs.Lent as L
 use Rattle.walks.proofs.Locals.{Locals, Blocks, HasType, IsIn, somes, val_at, put_at, no_ty, none-some, at_in, env, cells, dies, ty_of}
 use Rattle.walks.proofs.Locals.{block_of, cell_of, cell_at, ty-is, nth-is, put_is, cell-at}
 use Rattle.walks.proofs.Plain.{Plain, Of, ty, val, own, coded, row_of, IsOf, has-type, Args, AreOf, vals, tys, slots, kepts, stays}
 use Rattle.walks.proofs.Plain.{to, fro, fro-to, to-fro, spells, tellss, vss, flat-is, are-of, no_lasts, fits, has_all, have-types, go_all}
-use Rattle.walks.proofs.Walk.{Then, one, two, Stuck, ifKnown, ifLocal, if-local, Does, Ok, ok-runs, Context, Ends}
+use Rattle.walks.proofs.Walk.{Then, one, two, Stuck, if_known, if_local, if-local, Does, Ok, ok-runs, Context, Ends}
 
 -- ---- a function over a lent value, called with a value that lies in memory of one's own
 module _ {M : Type 1} {𝓤 : Ura M} (𝓛 : Logic 𝓤) (𝓣 : Tables 𝓤 𝓛.H) (T : Plain) where
@@ -158,7 +158,7 @@ module _ {M : Type 1} {𝓤 : Ura M} (𝓛 : Logic 𝓤) (𝓣 : Tables 𝓤 �
   open 𝓛 use {H}
 
   abbrev OpdOk : Locals → Operand → (Val → Type 2) → Type 2
-  OpdOk ls (copy (place i [])) K = ifKnown (val_at τs ls i) K
+  OpdOk ls (copy (place i [])) K = if_known (val_at τs ls i) K
   OpdOk ls (copy (place i (x ∷ st))) K = Stuck
   OpdOk ls (int w n) K = Then (T (ltb n (2 ^ bits w))) (λ _. K (vint w n))
   OpdOk ls (int_neg w n) K = Stuck
@@ -197,7 +197,7 @@ module _ {M : Type 1} {𝓤 : Ura M} (𝓛 : Logic 𝓤) (𝓣 : Tables 𝓤 �
       abbrev HasOpd : Operand → Val → Type 2
       HasOpd x v = (I : Item 𝓤) → Opd (Go {0}) 𝓛 (Away j ls I) (env 𝓛 τs bs) x v
 
-      known : (i : ℕ) (o : Option Val) → val_at τs (hide ls j) i ≡ o → (K : Val → Type 2) → ifKnown o K
+      known : (i : ℕ) (o : Option Val) → val_at τs (hide ls j) i ≡ o → (K : Val → Type 2) → if_known o K
           → (v : Val) × HasOpd (copy (place i [])) v × K v
       known i none e K k = elim k [ ]
       known i (Opt.some v) e K k = (v, (λ I. load ! (from ! (stop !)) (look ! (suc (suc i)) (cell-away 𝓛 τs bs ls rest j i v e))), k)
@@ -324,7 +324,7 @@ module _ {M : Type 1} {𝓤 : Ura M} {𝓛 : Logic 𝓤} {𝓣 : Tables 𝓤 �
 
   -- `i := &mut j`: that an address is of i's type
   pub address : {i j : ℕ}
-      → ifLocal τs i (λ τ. Then (HasType τ (pointer 𝓛 𝓣 τs bs j)) (λ _. Runs 𝓛 𝓣 τs bs b q (put_at τs ls i (pointer 𝓛 𝓣 τs bs j))))
+      → if_local τs i (λ τ. Then (HasType τ (pointer 𝓛 𝓣 τs bs j)) (λ _. Runs 𝓛 𝓣 τs bs b q (put_at τs ls i (pointer 𝓛 𝓣 τs bs j))))
       → Runs 𝓛 𝓣 τs bs (seq (assign (place i []) (addr_of (place j []))) b) q ls
   address {i} {j} k =
       let v = pointer 𝓛 𝓣 τs bs j in
@@ -334,7 +334,7 @@ module _ {M : Type 1} {𝓤 : Ura M} {𝓛 : Logic 𝓤} {𝓣 : Tables 𝓤 �
   -- `i := f(the address of j, ..)`, for a function f over the lent local j: its arguments, and what it needs of them
   pub lends : {f : Name} {xs : List Operand} {i : ℕ} (T : Plain) (F : LentFn T) → KnownTo 𝓛 𝓣 T f F → (j : ℕ) (t : Of T) (a : Args F.Ps)
       → (val_at τs ls j ≡ Opt.some (val T t)) → get_or τs j no_ty ≡ ty T → IsOf T t → AreOf F.Ps a → Asked F.pre (t, a)
-      → OpdsOk 𝓛 𝓣 τs (hide ls j) xs (λ vs. Then (vs ≡ pointer 𝓛 𝓣 τs bs j ∷ vals F.Ps a) (λ _. ifLocal τs i (λ τ. Then (τ ≡ ty F.R) (λ _.
+      → OpdsOk 𝓛 𝓣 τs (hide ls j) xs (λ vs. Then (vs ≡ pointer 𝓛 𝓣 τs bs j ∷ vals F.Ps a) (λ _. if_local τs i (λ τ. Then (τ ≡ ty F.R) (λ _.
       IsOf F.R (F.res t a) → IsOf T (F.after t a)
       → Runs 𝓛 𝓣 τs bs b q (put_at τs (put_at τs ls j (val T (F.after t a))) i (val F.R (F.res t a)))))))
       → Runs 𝓛 𝓣 τs bs (seq (call f xs (place i [])) b) q ls
@@ -342,7 +342,7 @@ module _ {M : Type 1} {𝓤 : Ura M} {𝓛 : Logic 𝓤} {𝓣 : Tables 𝓤 �
       let Go-on : Type 2 =
       IsOf F.R (F.res t a) → IsOf T (F.after t a)
       → Runs 𝓛 𝓣 τs bs b q (put_at τs (put_at τs ls j (val T (F.after t a))) i (val F.R (F.res t a))) in
-      let Lands : Type 2 = ifLocal τs i (λ τ. Then (τ ≡ ty F.R) (λ _. Go-on)) in
+      let Lands : Type 2 = if_local τs i (λ τ. Then (τ ≡ ty F.R) (λ _. Go-on)) in
       let os = opds-of 𝓛 𝓣 τs bs j ls xs (λ us. Then (us ≡ pointer 𝓛 𝓣 τs bs j ∷ vals F.Ps a) (λ _. Lands)) k in
       let l = if-local τs i (λ τ. Then (τ ≡ ty F.R) (λ _. Go-on)) (two os.2) in
       lends-at 𝓛 𝓣 τs bs T F f met j ls t a here fit is is-a need q b xs i
@@ -356,20 +356,20 @@ Gives F a v x = (v ≡ val F.R (F.res a)) × IsOf F.R (F.res a) × Unit {2}
 module _ {M : Type 1} {𝓤 : Ura M} (𝓛 : Logic 𝓤) (F : PlainFn) where
   open 𝓛 use {H}
 
-  abbrev Cl : Clauses 𝓤 (plainEnded F)
-  Cl = plainClauses F 𝓤
+  abbrev Cl : Clauses 𝓤 (plain_ended F)
+  Cl = plain_clauses F 𝓤
 
-  abbrev hs : Stays (plainEnded F).signature.params (plainEnded F).kept
+  abbrev hs : Stays (plain_ended F).signature.params (plain_ended F).kept
   hs = stays 0 F.Ps
 
   module _ (a : Args F.Ps) (is-a : AreOf F.Ps a) where
     abbrev Post : Val → SProp 𝓤
-    Post = (walk_of 𝓛 (plainEnded F) hs Cl).post ((tt, tt, tt, to 0 tt F.Ps a, vss 0 tt F.Ps a), tt)
+    Post = (walk_of 𝓛 (plain_ended F) hs Cl).post ((tt, tt, tt, to 0 tt F.Ps a, vss 0 tt F.Ps a), tt)
 
     exits-at : IsOf F.R (F.res a) → ent 𝓤 (sep 𝓤 (emp 𝓤) (emp 𝓤)) (Post (val F.R (F.res a)))
     exits-at is =
         qed 𝓛 (‵ ftrue ∷ ‵ ftrue ∷ []) ∵
-        suffices ! _ (ends_at 𝓛 (plainEnded F) hs Cl ((tt, tt, tt, to 0 tt F.Ps a, vss 0 tt F.Ps a), tt)
+        suffices ! _ (ends_at 𝓛 (plain_ended F) hs Cl ((tt, tt, tt, to 0 tt F.Ps a, vss 0 tt F.Ps a), tt)
         (val F.R (F.res a)) (F.res a) (no_lasts 0 tt F.Ps a) (fits 0 tt F.Ps a)) $
         suffices ! _ (beside 𝓤 _ (fact_i 𝓤 _ (emp 𝓤)
         (subst (λ (x : Args F.Ps). F.res a ≡ F.res x) (sym (fro-to 0 tt F.Ps a)) refl))) $ frame ! $ drop ! $
@@ -385,31 +385,31 @@ module _ {M : Type 1} {𝓤 : Ura M} (𝓛 : Logic 𝓤) (F : PlainFn) where
     abbrev Run : List Val → (Val → SProp 𝓤) → SProp 𝓤
     Run = WpFn 𝓤 H 𝓣.C 𝓣.Λ f
 
-    abbrev pub localTys : List Ty
-    localTys = ty F.R ∷ (tys F.Ps ++ ρs)
+    abbrev pub local_tys : List Ty
+    local_tys = ty F.R ∷ (tys F.Ps ++ ρs)
 
-    abbrev End : (a : Args F.Ps) (is-a : AreOf F.Ps a) → Blocks localTys → Out → SProp 𝓤
-    End a is-a bs = at_return 𝓤 H (env 𝓛 localTys bs) (Post a is-a)
+    abbrev End : (a : Args F.Ps) (is-a : AreOf F.Ps a) → Blocks local_tys → Out → SProp 𝓤
+    End a is-a bs = at_return 𝓤 H (env 𝓛 local_tys bs) (Post a is-a)
 
     -- the rest of a body, where `Ok` covers it and it returns the contract's result
-    abbrev pub Ending : (a : Args F.Ps) (bs : Blocks localTys) → (Out → SProp 𝓤) → Type 2
+    abbrev pub Ending : (a : Args F.Ps) (bs : Blocks local_tys) → (Out → SProp 𝓤) → Type 2
     Ending a bs q =
-        (b : Body) (ls : Locals) → Ok 𝓛 𝓣 (Unit {0}) no_item [] localTys b (Done 𝓛 𝓣 (Unit {0}) no_item [] localTys (Gives F a)) (tt, ls)
-        → Runs 𝓛 𝓣 localTys bs b q ls
+        (b : Body) (ls : Locals) → Ok 𝓛 𝓣 (Unit {0}) no_item [] local_tys b (Done 𝓛 𝓣 (Unit {0}) no_item [] local_tys (Gives F a)) (tt, ls)
+        → Runs 𝓛 𝓣 local_tys bs b q ls
 
-    finish : (a : Args F.Ps) (is-a : AreOf F.Ps a) (bs : Blocks localTys) → Ending a bs (End a is-a bs)
+    finish : (a : Args F.Ps) (is-a : AreOf F.Ps a) (bs : Blocks local_tys) → Ending a bs (End a is-a bs)
     finish a is-a bs b ls ok = record {
       run =
-          ok-runs 𝓛 𝓣 (Unit {0}) no_item [] localTys bs b (Done 𝓛 𝓣 (Unit {0}) no_item [] localTys (Gives F a)) (End a is-a bs)
-          (ends 𝓛 𝓣 (Unit {0}) no_item [] localTys bs (Gives F a) (Post a is-a) (gives-it a is-a)) (tt, ls) ok;
+          ok-runs 𝓛 𝓣 (Unit {0}) no_item [] local_tys bs b (Done 𝓛 𝓣 (Unit {0}) no_item [] local_tys (Gives F a)) (End a is-a bs)
+          (ends 𝓛 𝓣 (Unit {0}) no_item [] local_tys bs (Gives F a) (Post a is-a) (gives-it a is-a)) (tt, ls) ok;
     }
 
     abbrev pub BodyRuns : Type 2
     BodyRuns =
-        (a : Args F.Ps) → AreOf F.Ps a → Asked F.pre a → (bs : Blocks localTys) (q : Out → SProp 𝓤) → Ending a bs q
-        → Runs 𝓛 𝓣 localTys bs f.body q (none ∷ somes (vals F.Ps a))
+        (a : Args F.Ps) → AreOf F.Ps a → Asked F.pre a → (bs : Blocks local_tys) (q : Out → SProp 𝓤) → Ending a bs q
+        → Runs 𝓛 𝓣 local_tys bs f.body q (none ∷ somes (vals F.Ps a))
 
-    module _ (Shape-is : tys_of f.locals ≡ localTys) (ok : BodyRuns) where
+    module _ (Shape-is : tys_of f.locals ≡ local_tys) (ok : BodyRuns) where
       opening : ent 𝓤 (emp 𝓤) (H.⇛ (guard 𝓤 (Unit {0}) (sep 𝓤 (emp 𝓤) (emp 𝓤))))
       opening =
           let P : SProp 𝓤 = sep 𝓤 (emp 𝓤) (emp 𝓤) in
@@ -423,7 +423,7 @@ module _ {M : Type 1} {𝓤 : Ura M} (𝓛 : Logic 𝓤) (F : PlainFn) where
 
       module _ (κs : Lfts 0) where
         abbrev Ts : List RattleType
-        Ts = types_at (plainEnded F).signature.params κs
+        Ts = types_at (plain_ended F).signature.params κs
 
         abbrev sp : Spells Ts
         sp = spells 0 κs F.Ps
@@ -431,25 +431,25 @@ module _ {M : Type 1} {𝓤 : Ura M} (𝓛 : Logic 𝓤) (F : PlainFn) where
         abbrev At : Shares 0 → Denots (types_at (slots 0 F.Ps) κs) → Type 1
         At qs y =
             Are Ts (Ises Ts) y (valss Ts sp y)
-            → ent 𝓤 (sep 𝓤 (on_entry 𝓛 (plainEnded F).signature κs qs y (valss Ts sp y)) ((Cl κs y).requires tt))
-            (Run (flat Ts (valss Ts sp y)) ((walk_of 𝓛 (plainEnded F) hs Cl).post ((κs, qs, tt, y, valss Ts sp y), tt)))
+            → ent 𝓤 (sep 𝓤 (on_entry 𝓛 (plain_ended F).signature κs qs y (valss Ts sp y)) ((Cl κs y).requires tt))
+            (Run (flat Ts (valss Ts sp y)) ((walk_of 𝓛 (plain_ended F) hs Cl).post ((κs, qs, tt, y, valss Ts sp y), tt)))
 
         at-it : (qs : Shares 0) (a : Args F.Ps) → At qs (to 0 κs F.Ps a)
         at-it qs a are =
             let is-a = are-of 0 κs F.Ps a are in
             let y = to 0 κs F.Ps a in
-            let Start : SProp 𝓤 = on_entry 𝓛 (plainEnded F).signature κs qs y (valss Ts sp y) in
+            let Start : SProp 𝓤 = on_entry 𝓛 (plain_ended F).signature κs qs y (valss Ts sp y) in
             asked-out 𝓤 F.pre (fro 0 κs F.Ps y) Start (λ need.
             via 𝓤 (emp 𝓤) (top 𝓤 Start) (subst (λ (vs : List Val). ent 𝓤 (emp 𝓤) (Run vs (Post a is-a))) (sym (flat-is 0 κs F.Ps a))
             (walk a is-a (subst (λ (x : Args F.Ps). Asked F.pre x) (fro-to 0 κs F.Ps a) need))))
 
-      walks-it : Walks 𝓛 (plainEnded F) hs Run Cl
+      walks-it : Walks 𝓛 (plain_ended F) hs Run Cl
       walks-it =
-          walked 𝓛 (plainEnded F) hs Cl Run sp (λ κs. tellss 0 κs F.Ps)
+          walked 𝓛 (plain_ended F) hs Cl Run sp (λ κs. tellss 0 κs F.Ps)
           (λ κs qs bounds a g are. subst (At κs qs) (to-fro 0 κs F.Ps a) (at-it κs qs (fro 0 κs F.Ps a)) are)
 
-      meets-it : Meets 𝓛 (plainEnded F).signature Run (closing 𝓛 (plainEnded F) Cl)
-      meets-it = walk_Meets 𝓛 (plainEnded F) hs (go_all 𝓛 0 F.Ps) Cl Run (WpFn-mono 𝓤 H 𝓛.laws 𝓣 f) walks-it
+      meets-it : Meets 𝓛 (plain_ended F).signature Run (closing 𝓛 (plain_ended F) Cl)
+      meets-it = walk_Meets 𝓛 (plain_ended F) hs (go_all 𝓛 0 F.Ps) Cl Run (WpFn-mono 𝓤 H 𝓛.laws 𝓣 f) walks-it
 
 -- ---- what a function's own proof cites
 module _ {M : Type 1} {𝓤 : Ura M} (𝓛 : Logic 𝓤) (𝓜 : Model 𝓤 𝓛.H) (𝓡 : Running 𝓤 𝓛.H 𝓜) (ε : Routines) where
@@ -462,7 +462,7 @@ module _ {M : Type 1} {𝓤 : Ura M} (𝓛 : Logic 𝓤) (𝓜 : Model 𝓤 𝓛
   𝓣 = L.𝓣 𝓛 𝓜 𝓡 ε
 
   module _ (F : PlainFn) (name : Name) (f : Fn) (closes : Closed 𝓤 H (tables 𝓤 H 𝓜 𝓡 ε).C (tables 𝓤 H 𝓜 𝓡 ε).Λ name f)
-      (Shape-is : tys_of f.locals ≡ localTys G F 𝓣 f (skip F.Ps (past (tys_of f.locals)))) where
+      (Shape-is : tys_of f.locals ≡ local_tys G F 𝓣 f (skip F.Ps (past (tys_of f.locals)))) where
     pub owning : BodyRuns G F 𝓣 f (skip F.Ps (past (tys_of f.locals))) → Triple 𝓤 (𝓡.run (ε name)) (PlainMet F 𝓛)
     unfolding tables_of
     owning ok =

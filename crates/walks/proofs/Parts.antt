@@ -67,61 +67,61 @@ of {R} {X} {Y} p q = record {
 }
 
 -- ---- field k of a list of fields. Past the end stands a field of type `()`
-abbrev fieldK : List Field → ℕ → Field
-fieldK [] k = unit-field
-fieldK (F ∷ Fs) zero = F
-fieldK (F ∷ Fs) (suc k) = fieldK Fs k
+abbrev field_k : List Field → ℕ → Field
+field_k [] k = unit-field
+field_k (F ∷ Fs) zero = F
+field_k (F ∷ Fs) (suc k) = field_k Fs k
 
-abbrev lawsK : (Fs : List Field) → LL.Lawss Fs → (k : ℕ) → LL.FLaws (fieldK Fs k)
-lawsK [] ls k = LL.unit-laws
-lawsK (F ∷ Fs) ls zero = ls.0
-lawsK (F ∷ Fs) ls (suc k) = lawsK Fs ls.1 k
+abbrev laws_k : (Fs : List Field) → LL.Lawss Fs → (k : ℕ) → LL.FLaws (field_k Fs k)
+laws_k [] ls k = LL.unit-laws
+laws_k (F ∷ Fs) ls zero = ls.0
+laws_k (F ∷ Fs) ls (suc k) = laws_k Fs ls.1 k
 
-abbrev plainK : (Fs : List Field) → Plains (rows Fs) → (k : ℕ) → LL.Plain (fieldK Fs k)
-plainK [] ps k = LL.unit-plain
-plainK (F ∷ Fs) ps zero = ps.0
-plainK (F ∷ Fs) ps (suc k) = plainK Fs ps.1 k
+abbrev plain_k : (Fs : List Field) → Plains (rows Fs) → (k : ℕ) → LL.Plain (field_k Fs k)
+plain_k [] ps k = LL.unit-plain
+plain_k (F ∷ Fs) ps zero = ps.0
+plain_k (F ∷ Fs) ps (suc k) = plain_k Fs ps.1 k
 
-abbrev getK : (Fs : List Field) → Values Fs → (k : ℕ) → (fieldK Fs k).Value
-getK [] xs k = tt
-getK (F ∷ Fs) xs zero = xs.0
-getK (F ∷ Fs) xs (suc k) = getK Fs xs.1 k
+abbrev get_k : (Fs : List Field) → Values Fs → (k : ℕ) → (field_k Fs k).Value
+get_k [] xs k = tt
+get_k (F ∷ Fs) xs zero = xs.0
+get_k (F ∷ Fs) xs (suc k) = get_k Fs xs.1 k
 
-abbrev put_k : (Fs : List Field) → Values Fs → (k : ℕ) → (fieldK Fs k).Value → Values Fs
+abbrev put_k : (Fs : List Field) → Values Fs → (k : ℕ) → (field_k Fs k).Value → Values Fs
 put_k [] xs k x = tt
 put_k (F ∷ Fs) xs zero x = (x, xs.1)
 put_k (F ∷ Fs) xs (suc k) x = (xs.0, put_k Fs xs.1 k x)
 
-abbrev valsK : (Fs : List Field) → Valss (rows Fs) → ℕ → List Val
-valsK [] vss k = vunit ∷ []
-valsK (F ∷ Fs) vss zero = vss.0
-valsK (F ∷ Fs) vss (suc k) = valsK Fs vss.1 k
+abbrev vals_k : (Fs : List Field) → Valss (rows Fs) → ℕ → List Val
+vals_k [] vss k = vunit ∷ []
+vals_k (F ∷ Fs) vss zero = vss.0
+vals_k (F ∷ Fs) vss (suc k) = vals_k Fs vss.1 k
 
-abbrev putVals : (Fs : List Field) → Valss (rows Fs) → ℕ → List Val → Valss (rows Fs)
-putVals [] vss k vs = tt
-putVals (F ∷ Fs) vss zero vs = (vs, vss.1)
-putVals (F ∷ Fs) vss (suc k) vs = (vss.0, putVals Fs vss.1 k vs)
+abbrev put_vals : (Fs : List Field) → Valss (rows Fs) → ℕ → List Val → Valss (rows Fs)
+put_vals [] vss k vs = tt
+put_vals (F ∷ Fs) vss zero vs = (vs, vss.1)
+put_vals (F ∷ Fs) vss (suc k) vs = (vss.0, put_vals Fs vss.1 k vs)
 
 one-is : (Fs : List Field) (xs : Values Fs) (vss : Valss (rows Fs)) (k : ℕ) → AreAll (rows Fs) (intos Fs xs) vss
-    → Is (fieldK Fs k).row ((fieldK Fs k).into (getK Fs xs k)) (valsK Fs vss k)
+    → Is (field_k Fs k).row ((field_k Fs k).into (get_k Fs xs k)) (vals_k Fs vss k)
 one-is [] xs vss k h = refl
 one-is (F ∷ Fs) xs vss zero h = h.0
 one-is (F ∷ Fs) xs vss (suc k) h = one-is Fs xs.1 vss.1 k h.1
 
-all_are : (Fs : List Field) (xs : Values Fs) (vss : Valss (rows Fs)) (k : ℕ) (x : (fieldK Fs k).Value) (vs : List Val)
-    → AreAll (rows Fs) (intos Fs xs) vss → Is (fieldK Fs k).row ((fieldK Fs k).into x) vs
-    → AreAll (rows Fs) (intos Fs (put_k Fs xs k x)) (putVals Fs vss k vs)
+all_are : (Fs : List Field) (xs : Values Fs) (vss : Valss (rows Fs)) (k : ℕ) (x : (field_k Fs k).Value) (vs : List Val)
+    → AreAll (rows Fs) (intos Fs xs) vss → Is (field_k Fs k).row ((field_k Fs k).into x) vs
+    → AreAll (rows Fs) (intos Fs (put_k Fs xs k x)) (put_vals Fs vss k vs)
 all_are [] xs vss k x vs h is = tt
 all_are (F ∷ Fs) xs vss zero x vs h is = (is, h.1)
 all_are (F ∷ Fs) xs vss (suc k) x vs h is = (h.0, all_are Fs xs.1 vss.1 k x vs h.1 is)
 
-pub got : (Fs : List Field) (ls : LL.Lawss Fs) (xs : Values Fs) (k : ℕ) → get_v (of_list (LL.lows Fs ls xs)) k ≡ (lawsK Fs ls k).low (getK Fs xs k)
+pub got : (Fs : List Field) (ls : LL.Lawss Fs) (xs : Values Fs) (k : ℕ) → get_v (of_list (LL.lows Fs ls xs)) k ≡ (laws_k Fs ls k).low (get_k Fs xs k)
 got [] ls xs k = refl
 got (F ∷ Fs) ls xs zero = refl
 got (F ∷ Fs) ls xs (suc k) = got Fs ls.1 xs.1 k
 
-was-put : (Fs : List Field) (ls : LL.Lawss Fs) (xs : Values Fs) (k : ℕ) (x : (fieldK Fs k).Value)
-    → set_v (of_list (LL.lows Fs ls xs)) k ((lawsK Fs ls k).low x) ≡ of_list (LL.lows Fs ls (put_k Fs xs k x))
+was-put : (Fs : List Field) (ls : LL.Lawss Fs) (xs : Values Fs) (k : ℕ) (x : (field_k Fs k).Value)
+    → set_v (of_list (LL.lows Fs ls xs)) k ((laws_k Fs ls k).low x) ≡ of_list (LL.lows Fs ls (put_k Fs xs k x))
 was-put [] ls xs k x = refl
 was-put (F ∷ Fs) ls xs zero x = refl
 was-put (F ∷ Fs) ls xs (suc k) x = ap (vcons (ls.0.low xs.0)) (was-put Fs ls.1 xs.1 k x)
@@ -131,35 +131,35 @@ module _ (S : Form) (k : ℕ) where
   abbrev Fs : List Field
   Fs = S.N.parts
 
-  abbrev fieldOne : Type 0
-  fieldOne = (fieldK Fs k).row.mir ≡ lone (fieldK Fs k).row.mir ∷ []
+  abbrev field_one : Type 0
+  field_one = (field_k Fs k).row.mir ≡ lone (field_k Fs k).row.mir ∷ []
 
-  abbrev pub fieldPlain : fieldOne → Plain
-  fieldPlain one = record { F = fieldK Fs k; L = lawsK Fs S.laws k; facts = plainK Fs S.facts k; one = one }
+  abbrev pub field_plain : field_one → Plain
+  field_plain one = record { F = field_k Fs k; L = laws_k Fs S.laws k; facts = plain_k Fs S.facts k; one = one }
 
   abbrev values : S.N.D → Values Fs
   values t = S.N.as_values t
 
-  abbrev got_of : S.N.D → (fieldK Fs k).Value
-  got_of t = getK Fs (values t) k
+  abbrev got_of : S.N.D → (field_k Fs k).Value
+  got_of t = get_k Fs (values t) k
 
-  abbrev put_in : S.N.D → (fieldK Fs k).Value → S.N.D
+  abbrev put_in : S.N.D → (field_k Fs k).Value → S.N.D
   put_in t x = S.N.make (put_k Fs (values t) k x) (S.free _)
 
-  put-values : (t : S.N.D) (x : (fieldK Fs k).Value) → values (put_in t x) ≡ put_k Fs (values t) k x
+  put-values : (t : S.N.D) (x : (field_k Fs k).Value) → values (put_in t x) ≡ put_k Fs (values t) k x
   put-values t x = S.N.beta (put_k Fs (values t) k x) (S.free _)
 
   abbrev machine : Values Fs → Vals
   machine xs = of_list (LL.lows Fs S.laws xs)
 
-  module _ (one : fieldOne) where
-    pub is-got : (t : S.N.D) → IsOf (struct S) t → IsOf (fieldPlain one) (got_of t)
-    is-got t is = at-val (fieldPlain one) (got_of t) _ (one-is Fs (values t) is.0 k is.1.1)
+  module _ (one : field_one) where
+    pub is-got : (t : S.N.D) → IsOf (struct S) t → IsOf (field_plain one) (got_of t)
+    is-got t is = at-val (field_plain one) (got_of t) _ (one-is Fs (values t) is.0 k is.1.1)
 
-    pub is-put : (t : S.N.D) → IsOf (struct S) t → (x : (fieldK Fs k).Value) → IsOf (fieldPlain one) x → IsOf (struct S) (put_in t x)
+    pub is-put : (t : S.N.D) → IsOf (struct S) t → (x : (field_k Fs k).Value) → IsOf (field_plain one) x → IsOf (struct S) (put_in t x)
     is-put t is x is_x =
-        let vs : List Val = (lawsK Fs S.laws k).low x ∷ [] in
-        let vss : Valss (rows Fs) = putVals Fs is.0 k vs in
+        let vs : List Val = (laws_k Fs S.laws k).low x ∷ [] in
+        let vss : Valss (rows Fs) = put_vals Fs is.0 k vs in
         at-val (struct S) (put_in t x) (vstruct (of_list (flat (rows Fs) vss)) ∷ []) (
           vss,
           (
@@ -169,15 +169,15 @@ module _ (S : Form) (k : ℕ) where
           ),
         )
 
-    pub laid : (t : S.N.D) (x : (fieldK Fs k).Value)
-        → vstruct (set_v (machine (values t)) k ((lawsK Fs S.laws k).low x)) ≡ S.lowers.lowered (put_in t x)
+    pub laid : (t : S.N.D) (x : (field_k Fs k).Value)
+        → vstruct (set_v (machine (values t)) k ((laws_k Fs S.laws k).low x)) ≡ S.lowers.lowered (put_in t x)
     laid t x =
         ap vstruct (was-put Fs S.laws (values t) k x) ∙ ap (λ (xs : Values Fs). vstruct (machine xs)) (sym (put-values t x))
         ∙ sym (S.same (put_in t x))
 
   -- the field has one machine type, and is at place d of the struct: both by `refl`
-  abbrev pub field_of : {d : ℕ} (one : fieldOne) → field_at zero (to_tys (mirs (rows Fs))) k ≡ some (lone (fieldK Fs k).row.mir, d)
-      → Part (struct S) (fieldPlain one)
+  abbrev pub field_of : {d : ℕ} (one : field_one) → field_at zero (to_tys (mirs (rows Fs))) k ≡ some (lone (field_k Fs k).row.mir, d)
+      → Part (struct S) (field_plain one)
   field_of {d} one at = record {
     get = got_of;
     put = put_in;
@@ -189,7 +189,7 @@ module _ (S : Form) (k : ℕ) where
     goes = λ b o w. fld ! at w;
     lay = λ t u. vstruct (set_v (machine (values t)) k u);
     lies = λ {W = W} t {i} {q} {b} {o} {back} w.
-        subst (λ (v : Val). Within (Go {0}) W i q (ty (fieldPlain one)) b (o + d) v (λ u. back (vstruct (set_v (machine (values t)) k u))))
+        subst (λ (v : Val). Within (Go {0}) W i q (ty (field_plain one)) b (o + d) v (λ u. back (vstruct (set_v (machine (values t)) k u))))
         (got Fs S.laws (values t) k) (sub ! k at (subst (λ (v : Val). Within (Go {0}) W i q (ty (struct S)) b o v back) (S.same t) w));
     lays = laid one;
   }

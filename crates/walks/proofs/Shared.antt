@@ -71,8 +71,8 @@ pub record SliceFn (E : Plain) : Type 2 where
 
 -- ---- their contracts
 module _ {T E : Plain} (F : SharedFn T E) where
-  abbrev pub sharedEnded : Ended
-  sharedEnded = record {
+  abbrev pub shared_ended : Ended
+  shared_ended = record {
     signature = record {
       lifetimes = 2;
       outlives = [];
@@ -82,19 +82,19 @@ module _ {T E : Plain} (F : SharedFn T E) where
     kept = (yes, (yes, tt));
   }
 
-  abbrev pub sharedClauses : {M : Type 1} (𝓤 : Ura M) → Clauses 𝓤 sharedEnded
-  sharedClauses 𝓤 κs a = record {
+  abbrev pub shared_clauses : {M : Type 1} (𝓤 : Ura M) → Clauses 𝓤 shared_ended
+  shared_clauses 𝓤 κs a = record {
     ghost = Unit {0};
     requires = λ g. emp 𝓤;
     ensures = λ g r end. fact 𝓤 (F.ens a.0.now a.1.0.now r end.1.0.now);
   }
 
   abbrev pub SharedMet : {M : Type 1} {𝓤 : Ura M} (𝓛 : Logic 𝓤) → Contract 𝓤
-  SharedMet {𝓤 = 𝓤} 𝓛 = triple_of 𝓛 sharedEnded.signature (closing 𝓛 sharedEnded (sharedClauses 𝓤))
+  SharedMet {𝓤 = 𝓤} 𝓛 = triple_of 𝓛 shared_ended.signature (closing 𝓛 shared_ended (shared_clauses 𝓤))
 
 module _ {E : Plain} (F : SliceFn E) where
-  abbrev pub sliceEnded : Ended
-  sliceEnded = record {
+  abbrev pub slice_ended : Ended
+  slice_ended = record {
     signature = record {
       lifetimes = 1;
       outlives = [];
@@ -104,15 +104,15 @@ module _ {E : Plain} (F : SliceFn E) where
     kept = (yes, kepts 1 F.Ps);
   }
 
-  abbrev pub sliceClauses : {M : Type 1} (𝓤 : Ura M) → Clauses 𝓤 sliceEnded
-  sliceClauses 𝓤 κs a = record {
+  abbrev pub slice_clauses : {M : Type 1} (𝓤 : Ura M) → Clauses 𝓤 slice_ended
+  slice_clauses 𝓤 κs a = record {
     ghost = Unit {0};
     requires = λ g. emp 𝓤;
     ensures = λ g r end. fact 𝓤 (F.ens a.0.now (fro 1 κs F.Ps a.1) r end.0.now);
   }
 
   abbrev pub SliceMet : {M : Type 1} {𝓤 : Ura M} (𝓛 : Logic 𝓤) → Contract 𝓤
-  SliceMet {𝓤 = 𝓤} 𝓛 = triple_of 𝓛 sliceEnded.signature (closing 𝓛 sliceEnded (sliceClauses 𝓤))
+  SliceMet {𝓤 = 𝓤} 𝓛 = triple_of 𝓛 slice_ended.signature (closing 𝓛 slice_ended (slice_clauses 𝓤))
 
 -- ---- what is lent: lifetime, share, place, name and value of each reference
 pub record Lending (T E : Plain) : Type 0 where
@@ -243,7 +243,7 @@ module _ {M : Type 1} {𝓤 : Ura M} (𝓛 : Logic 𝓤) (Ts : Tables 𝓤 𝓛.
         (guard_i 𝓤 (Known r) (sem 𝓛 (Final ys)) (s.0, at-end, subst (λ (u : List (Of E)). length u ≡ length ℓ.xs) s.1 l))
 
     abbrev Said : Of F.R → SProp 𝓤
-    Said r = ensured 𝓛 (sliceEnded F) (sliceClauses F 𝓤) κs (out 𝓛 ℓ, to 1 κs F.Ps a) tt r
+    Said r = ensured 𝓛 (slice_ended F) (slice_clauses F 𝓤) κs (out 𝓛 ℓ, to 1 κs F.Ps a) tt r
 
     told : (r : Of F.R) → ent 𝓤 (Said r) (guard 𝓤 (Known r) (sem 𝓛 (Final end)))
     told r = ex_e 𝓤 _ (λ ws.
@@ -290,24 +290,24 @@ module _ {M : Type 1} {𝓤 : Ura M} (𝓛 : Logic 𝓤) (Ts : Tables 𝓤 𝓛.
 module _ {M : Type 1} {𝓤 : Ura M} (𝓛 : Logic 𝓤) {T E : Plain} (F : SharedFn T E) where
   open 𝓛 use {H}
 
-  abbrev Cl : Clauses 𝓤 (sharedEnded F)
-  Cl = sharedClauses F 𝓤
+  abbrev Cl : Clauses 𝓤 (shared_ended F)
+  Cl = shared_clauses F 𝓤
 
-  abbrev hs : Stays (sharedEnded F).signature.params (sharedEnded F).kept
+  abbrev hs : Stays (shared_ended F).signature.params (shared_ended F).kept
   hs = (stay_none_ref (0 ∷ []) tt (plain (λ κs. row_of T)) yes, (gave_slice (1 ∷ []) tt (plain (λ κs. row_of E)), tt))
 
   module _ (ℓ : Lending T E) where
     abbrev lfts : Lfts 2
     lfts = (ℓ.κ₀, (ℓ.κ₁, tt))
 
-    abbrev args : Arguments (sharedEnded F).signature lfts
+    abbrev args : Arguments (shared_ended F).signature lfts
     args = (shared 𝓛 ℓ, (out 𝓛 ℓ, tt))
 
-    abbrev bound : (walk_of 𝓛 (sharedEnded F) hs Cl).Ghost
+    abbrev bound : (walk_of 𝓛 (shared_ended F) hs Cl).Ghost
     bound = ((lfts, (ℓ.q₀, (ℓ.q₁, tt)), tt, args, (vptr ℓ.b₀ ℓ.o₀ ∷ [], (slice_of 𝓛 ℓ ∷ [], tt))), tt)
 
     abbrev Post : Val → SProp 𝓤
-    Post = (walk_of 𝓛 (sharedEnded F) hs Cl).post bound
+    Post = (walk_of 𝓛 (shared_ended F) hs Cl).post bound
 
     abbrev shr-own : Fml
     shr-own = (ShrRef (named 0) ℓ.κ₀ (row_of T)).own_val (shared 𝓛 ℓ) (vptr ℓ.b₀ ℓ.o₀ ∷ [])
@@ -319,7 +319,7 @@ module _ {M : Type 1} {𝓤 : Ura M} (𝓛 : Logic 𝓤) {T E : Plain} (F : Shar
     HeldAt q s = sep 𝓤 (mean 𝓛 (kept 𝓛 ℓ s)) (⋆ 𝓛 (opened 𝓛 ℓ q))
 
     abbrev Entry : SProp 𝓤
-    Entry = on_entry 𝓛 (sharedEnded F).signature lfts (ℓ.q₀, (ℓ.q₁, tt)) args (vptr ℓ.b₀ ℓ.o₀ ∷ [], (slice_of 𝓛 ℓ ∷ [], tt))
+    Entry = on_entry 𝓛 (shared_ended F).signature lfts (ℓ.q₀, (ℓ.q₁, tt)) args (vptr ℓ.b₀ ℓ.o₀ ∷ [], (slice_of 𝓛 ℓ ∷ [], tt))
 
     opens-it : ent 𝓤 Entry (H.⇛ (ex 𝓤 (λ (q : Share). guard 𝓤 (IsOf T ℓ.t) (HeldAt q none))))
     opens-it =
@@ -348,7 +348,7 @@ module _ {M : Type 1} {𝓤 : Ura M} (𝓛 : Logic 𝓤) {T E : Plain} (F : Shar
         by ! (
         qed 𝓛 (‵ (flft ℓ.κ₀ ℓ.q₀) ∷ kept 𝓛 ℓ (Opt.some ys) ∷ ‵ (fshr_bor ℓ.κ₀ (λ s. part_at (row_of T) s ℓ.t ℓ.b₀ ℓ.o₀)) ∷
         ‵ (fres ℓ.γ₀ ((coded T).code ℓ.t)) ∷ []) ∵
-        suffices ! _ (ends_at 𝓛 (sharedEnded F) hs Cl bound (val F.R r) r (tt, (ys, tt)) (tt, (l, tt))) $
+        suffices ! _ (ends_at 𝓛 (shared_ended F) hs Cl bound (val F.R r) r (tt, (ys, tt)) (tt, (l, tt))) $
         suffices ! _ (beside 𝓤 _ (fact_i 𝓤 _ (emp 𝓤) e)) $
         move ! (1 ∷ []) $ split ! $ nothing ! $ move ! (2 ∷ 0 ∷ []) $ join ! $ move ! (2 ∷ 0 ∷ []) $ join ! $ frame ! $
         -- [the last list; the shared borrow; the last value]
@@ -367,34 +367,34 @@ module _ {M : Type 1} {𝓤 : Ura M} (𝓛 : Logic 𝓤) {T E : Plain} (F : Shar
   abbrev ref_ty : Ty
   ref_ty = ty_ref (named 0) imm (pointee T.F.row.written)
 
-  abbrev outTy : Ty
-  outTy = slice_ty (ty_ref (named 1) mut (pointee E.F.row.written))
+  abbrev out_ty : Ty
+  out_ty = slice_ty (ty_ref (named 1) mut (pointee E.F.row.written))
 
-  abbrev pub sharedTys : List Ty → List Ty
-  sharedTys ρs = ty F.R ∷ ref_ty ∷ outTy ∷ ρs
+  abbrev pub shared_tys : List Ty → List Ty
+  shared_tys ρs = ty F.R ∷ ref_ty ∷ out_ty ∷ ρs
 
   module _ (Ts : Tables 𝓤 H) (f : Fn) (ρs : List Ty) where
     -- the facts of the body, for whatever is lent, and whatever share of the T is at hand
     abbrev pub SharedOk : Type 2
     SharedOk =
         (ℓ : Lending T E) (q : Share) → IsOf T ℓ.t → Room (row_of E) (length ℓ.xs)
-        → Ok 𝓛 Ts (Option (List (Of E))) (kept 𝓛 ℓ) (opened 𝓛 ℓ q) (sharedTys ρs) f.body
-        (Done 𝓛 Ts (Option (List (Of E))) (kept 𝓛 ℓ) (opened 𝓛 ℓ q) (sharedTys ρs) (Shared-ends ℓ))
+        → Ok 𝓛 Ts (Option (List (Of E))) (kept 𝓛 ℓ) (opened 𝓛 ℓ q) (shared_tys ρs) f.body
+        (Done 𝓛 Ts (Option (List (Of E))) (kept 𝓛 ℓ) (opened 𝓛 ℓ q) (shared_tys ρs) (Shared-ends ℓ))
         (none, none ∷ Opt.some (vptr ℓ.b₀ ℓ.o₀) ∷ Opt.some (slice_of 𝓛 ℓ) ∷ [])
 
-    module _ (Shape-is : tys_of f.locals ≡ sharedTys ρs) (ok : SharedOk) where
+    module _ (Shape-is : tys_of f.locals ≡ shared_tys ρs) (ok : SharedOk) where
       abbrev Run : List Val → (Val → SProp 𝓤) → SProp 𝓤
       Run = WpFn 𝓤 H Ts.C Ts.Λ f
 
       walk : (ℓ : Lending T E) → Room (row_of E) (length ℓ.xs) → ent 𝓤 (Entry ℓ) (Run (vptr ℓ.b₀ ℓ.o₀ ∷ slice_of 𝓛 ℓ ∷ []) (Post ℓ))
       walk ℓ room =
-          runs-opened 𝓛 Ts (Option (List (Of E))) Share (λ q. kept 𝓛 ℓ) (opened 𝓛 ℓ) f (ty F.R) (ref_ty ∷ outTy ∷ ρs) Shape-is
+          runs-opened 𝓛 Ts (Option (List (Of E))) Share (λ q. kept 𝓛 ℓ) (opened 𝓛 ℓ) f (ty F.R) (ref_ty ∷ out_ty ∷ ρs) Shape-is
           (vptr ℓ.b₀ ℓ.o₀ ∷ slice_of 𝓛 ℓ ∷ []) ((tt, tt), ((tt, (tt, (record { fits = room.0 }, tt))), tt)) (Entry ℓ) (IsOf T ℓ.t) none
           (opens-it ℓ) (Shared-ends ℓ) (Post ℓ) (ends ℓ) (λ q is. ok ℓ q is room)
 
-      walks-it : Walks 𝓛 (sharedEnded F) hs Run Cl
+      walks-it : Walks 𝓛 (shared_ended F) hs Run Cl
       walks-it =
-          walked 𝓛 (sharedEnded F) hs Cl Run (λ κs. (shr_vals, (shr_slice_vals, tt)))
+          walked 𝓛 (shared_ended F) hs Cl Run (λ κs. (shr_vals, (shr_slice_vals, tt)))
           (λ κs. (shr_Tells (named 0) κs.0 (row_of T), (mut_slice_Tells (named 1) κs.1.0 (row_of E), tt)))
           (λ κs qs bounds a g are. via 𝓤 _ (fst∗ 𝓤 _ (emp 𝓤)) (walk (record {
             κ₀ = κs.0;
@@ -411,9 +411,9 @@ module _ {M : Type 1} {𝓤 : Ura M} (𝓛 : Logic 𝓤) {T E : Plain} (F : Shar
             xs = a.1.0.now;
           }) are.1.0.0.1))
 
-      meets-it : Meets 𝓛 (sharedEnded F).signature Run (closing 𝓛 (sharedEnded F) Cl)
+      meets-it : Meets 𝓛 (shared_ended F).signature Run (closing 𝓛 (shared_ended F) Cl)
       meets-it =
-          walk_Meets 𝓛 (sharedEnded F) hs (
+          walk_Meets 𝓛 (shared_ended F) hs (
             Goes-none_ref 𝓛 2 (0 ∷ []) tt (plain (λ κs. row_of T)) yes,
             (Goes-gave_slice 𝓛 2 1 tt (plain (λ κs. row_of E)), tt),
           ) Cl Run (WpFn-mono 𝓤 H 𝓛.laws Ts f) walks-it
@@ -434,7 +434,7 @@ module _ {M : Type 1} {𝓤 : Ura M} (𝓛 : Logic 𝓤) (𝓜 : Model 𝓤 𝓛
   Ts = 𝓣 𝓛 𝓜 𝓡 ε
 
   pub sharing : {T E : Plain} (F : SharedFn T E) (name : Name) (f : Fn) → Closed 𝓤 H (tables 𝓤 H 𝓜 𝓡 ε).C (tables 𝓤 H 𝓜 𝓡 ε).Λ name f
-      → tys_of f.locals ≡ sharedTys (W 𝓛 𝓜 𝓡 ε) F (beyond f) → SharedOk (W 𝓛 𝓜 𝓡 ε) F Ts f (beyond f)
+      → tys_of f.locals ≡ shared_tys (W 𝓛 𝓜 𝓡 ε) F (beyond f) → SharedOk (W 𝓛 𝓜 𝓡 ε) F Ts f (beyond f)
       → Triple 𝓤 (𝓡.run (ε name)) (SharedMet F 𝓛)
   unfolding tables_of
   sharing F name f closes Shape-is ok =

@@ -24,8 +24,8 @@ use types.Run.{Opd, Opds, Rv, Writes, Finds, look, init, store, stop, hop, from,
 use types.Run.{of_opd, bin, un, addr, assigns_last, land_last, first, skips, jumps, blocks, branches, loops, Below}
 use types.Part.{agg, rep}
 use denote.Triple.Call.{calls_from_last}
-use Rattle.walks.proofs.Locals.{Locals, Blocks, HasType, IsIn, Weaker, val_at, put_at, no_ty, env, roomOf, cell_of, cells, dies, ty_of}
-use Rattle.walks.proofs.Locals.{block_of, cell_at, ty-is, nth-is, put_is, cell-at, room_of, Stars}
+use Rattle.walks.proofs.Locals.{Locals, Blocks, HasType, IsIn, Weaker, val_at, put_at, no_ty, env, room_of, cell_of, cells, dies, ty_of}
+use Rattle.walks.proofs.Locals.{block_of, cell_at, ty-is, nth-is, put_is, cell-at, room_of_lem, Stars}
 
 -- ---- what facts are made of
 -- one fact, and then the others. It is a constructor, so that its parts are read off the goal, and no goal is written out twice
@@ -42,32 +42,32 @@ two (x ⨟ y) = y
 -- there is no way on: code that is not covered, or a local that has no value yet
 pub data Stuck : Type 2 where
 
-abbrev pub ifKnown : Option Val → (Val → Type 2) → Type 2
-ifKnown none K = Stuck
-ifKnown (Opt.some v) K = K v
+abbrev pub if_known : Option Val → (Val → Type 2) → Type 2
+if_known none K = Stuck
+if_known (Opt.some v) K = K v
 
-abbrev pub ifPointer : Val → (Val → Type 2) → Type 2
-ifPointer (vptr b o) K = K (vptr b o)
-ifPointer vunit K = Stuck
-ifPointer (vbool y) K = Stuck
-ifPointer (vint w n) K = Stuck
-ifPointer (vfloat f x) K = Stuck
-ifPointer (vstruct vs) K = Stuck
+abbrev pub if_pointer : Val → (Val → Type 2) → Type 2
+if_pointer (vptr b o) K = K (vptr b o)
+if_pointer vunit K = Stuck
+if_pointer (vbool y) K = Stuck
+if_pointer (vint w n) K = Stuck
+if_pointer (vfloat f x) K = Stuck
+if_pointer (vstruct vs) K = Stuck
 
-abbrev pub ifBool : Val → (Bool → Type 2) → Type 2
-ifBool (vbool y) K = K y
-ifBool vunit K = Stuck
-ifBool (vptr b o) K = Stuck
-ifBool (vint w n) K = Stuck
-ifBool (vfloat f x) K = Stuck
-ifBool (vstruct vs) K = Stuck
+abbrev pub if_bool : Val → (Bool → Type 2) → Type 2
+if_bool (vbool y) K = K y
+if_bool vunit K = Stuck
+if_bool (vptr b o) K = Stuck
+if_bool (vint w n) K = Stuck
+if_bool (vfloat f x) K = Stuck
+if_bool (vstruct vs) K = Stuck
 
-abbrev pub ifLocal : List Ty → ℕ → (Ty → Type 2) → Type 2
-ifLocal [] i K = Stuck
-ifLocal (τ ∷ τs) zero K = K τ
-ifLocal (τ ∷ τs) (suc i) K = ifLocal τs i K
+abbrev pub if_local : List Ty → ℕ → (Ty → Type 2) → Type 2
+if_local [] i K = Stuck
+if_local (τ ∷ τs) zero K = K τ
+if_local (τ ∷ τs) (suc i) K = if_local τs i K
 
-pub if-local : (τs : List Ty) (i : ℕ) (K : Ty → Type 2) → ifLocal τs i K → IsIn τs i × K (get_or τs i no_ty)
+pub if-local : (τs : List Ty) (i : ℕ) (K : Ty → Type 2) → if_local τs i K → IsIn τs i × K (get_or τs i no_ty)
 if-local [] i K k = elim k [ ]
 if-local (τ ∷ τs) zero K k = (tt, k)
 if-local (τ ∷ τs) (suc i) K k = if-local τs i K k
@@ -113,22 +113,22 @@ module _ {M : Type 1} {𝓤 : Ura M} (𝓛 : Logic 𝓤) (𝓣 : Tables 𝓤 �
     abbrev pub Context : Blocks τs → State → List (Item 𝓤)
     Context bs s = item s.0 ∷ rest bs s.1
 
-    abbrev pub envOf : Blocks τs → Env 𝓤 H
-    envOf bs = env 𝓛 τs bs
+    abbrev pub env_of : Blocks τs → Env 𝓤 H
+    env_of bs = env 𝓛 τs bs
 
     -- ---- what operands and right sides need
     -- a place of more than a local is given by hand: its value, and how it is read
     abbrev pub HasOpd : Locals → Operand → Val → Type 2
-    HasOpd ls x v = (bs : Blocks τs) (I : Item 𝓤) → Opd (Go {0}) 𝓛 (I ∷ rest bs ls) (envOf bs) x v
+    HasOpd ls x v = (bs : Blocks τs) (I : Item 𝓤) → Opd (Go {0}) 𝓛 (I ∷ rest bs ls) (env_of bs) x v
 
     abbrev pub HasOpds : Locals → List Operand → List Val → Type 2
-    HasOpds ls xs vs = (bs : Blocks τs) (I : Item 𝓤) → Opds (Go {0}) 𝓛 (I ∷ rest bs ls) (envOf bs) xs vs
+    HasOpds ls xs vs = (bs : Blocks τs) (I : Item 𝓤) → Opds (Go {0}) 𝓛 (I ∷ rest bs ls) (env_of bs) xs vs
 
     abbrev pub HasRv : State → RValue → Val → Type 2
-    HasRv s rv v = (bs : Blocks τs) → Rv (Go {0}) 𝓛 (Context bs s) (envOf bs) rv v
+    HasRv s rv v = (bs : Blocks τs) → Rv (Go {0}) 𝓛 (Context bs s) (env_of bs) rv v
 
     abbrev pub OpdOk : Locals → Operand → (Val → Type 2) → Type 2
-    OpdOk ls (copy (place i [])) K = ifKnown (val_at τs ls i) K
+    OpdOk ls (copy (place i [])) K = if_known (val_at τs ls i) K
     OpdOk ls (copy (place i (x ∷ st))) K = Then Val (λ v. Then (HasOpd ls (copy (place i (x ∷ st))) v) (λ _. K v))
     OpdOk ls (int w n) K = Then (T (ltb n (2 ^ bits w))) (λ _. K (vint w n))
     OpdOk ls (int_neg w k) K = Stuck
@@ -144,7 +144,7 @@ module _ {M : Type 1} {𝓤 : Ura M} (𝓛 : Logic 𝓤) (𝓣 : Tables 𝓤 �
     OpdsOk ls (x ∷ xs) K = OpdOk ls x (λ v. OpdsOk ls xs (λ vs. K (v ∷ vs)))
 
     abbrev pub RvOk : State → RValue → (Val → Type 2) → Type 2
-    RvOk s (rv_opd (copy (place i []))) K = ifKnown (val_at τs s.1 i) K
+    RvOk s (rv_opd (copy (place i []))) K = if_known (val_at τs s.1 i) K
     RvOk s (rv_opd (copy (place i (x ∷ st)))) K = Then Val (λ v. Then (HasRv s (rv_opd (copy (place i (x ∷ st)))) v) (λ _. K v))
     RvOk s (rv_opd (int w n)) K = OpdOk s.1 (int w n) K
     RvOk s (rv_opd (int_neg w n)) K = Stuck
@@ -157,7 +157,7 @@ module _ {M : Type 1} {𝓤 : Ura M} (𝓛 : Logic 𝓤) (𝓣 : Tables 𝓤 �
     RvOk s (op2 o x y) K = OpdOk s.1 x (λ a. OpdOk s.1 y (λ b. Then (Dom (op2_chk o a b)) (λ _. K (op2_val o a b))))
     RvOk s (op1 o x) K = OpdOk s.1 x (λ a. Then (Dom (op1_chk o a)) (λ _. K (op1_val o a)))
     RvOk s (addr_of (place i [])) K = Stuck
-    RvOk s (addr_of (place i (deref τ ∷ []))) K = ifKnown (val_at τs s.1 i) (λ v. ifPointer v K)
+    RvOk s (addr_of (place i (deref τ ∷ []))) K = if_known (val_at τs s.1 i) (λ v. if_pointer v K)
     RvOk s (addr_of (place i (deref τ ∷ x ∷ st))) K = Then Val (λ v. Then (HasRv s (addr_of (place i (deref τ ∷ x ∷ st))) v) (λ _. K v))
     RvOk s (addr_of (place i (field k ∷ st))) K = Then Val (λ v. Then (HasRv s (addr_of (place i (field k ∷ st))) v) (λ _. K v))
     RvOk s (addr_of (place i (variant k ∷ st))) K = Stuck
@@ -168,34 +168,34 @@ module _ {M : Type 1} {𝓤 : Ura M} (𝓛 : Logic 𝓤) (𝓣 : Tables 𝓤 �
     -- a store behind the reference is given by hand: the value there after it, and how it is written
     abbrev pub Stores : State → Place → Val → D → Type 2
     Stores s p v t =
-        (bs : Blocks τs) → (sp : Spot 𝓤 H) × Finds (Go {0}) 𝓛 (Context bs s) (envOf bs) p sp
+        (bs : Blocks τs) → (sp : Spot 𝓤 H) × Finds (Go {0}) 𝓛 (Context bs s) (env_of bs) p sp
         × Writes (Go {0}) 𝓛 (Context bs s) sp.0 sp.1 sp.2 v (Context bs (t, s.1))
 
     -- what must hold where the code ends, for each way of ending
     abbrev pub Ends : Type 3
     Ends = Out → State → Type 2
 
-    abbrev pub thenOk : (State → Type 2) → Ends → Ends
-    thenOk go Q next s = go s
-    thenOk go Q (exits n) s = Q (exits n) s
-    thenOk go Q returns s = Q returns s
+    abbrev pub then_ok : (State → Type 2) → Ends → Ends
+    then_ok go Q next s = go s
+    then_ok go Q (exits n) s = Q (exits n) s
+    then_ok go Q returns s = Q returns s
 
-    abbrev pub blockOk : Ends → Ends
-    blockOk Q next s = Q next s
-    blockOk Q (exits zero) s = Q next s
-    blockOk Q (exits (suc n)) s = Q (exits n) s
-    blockOk Q returns s = Q returns s
+    abbrev pub block_ok : Ends → Ends
+    block_ok Q next s = Q next s
+    block_ok Q (exits zero) s = Q next s
+    block_ok Q (exits (suc n)) s = Q (exits n) s
+    block_ok Q returns s = Q returns s
 
-    abbrev pub turnOk : (State → Type 2) → Ends → Ends
-    turnOk again Q next s = again s
-    turnOk again Q (exits zero) s = again s
-    turnOk again Q (exits (suc n)) s = Q (exits n) s
-    turnOk again Q returns s = Q returns s
+    abbrev pub turn_ok : (State → Type 2) → Ends → Ends
+    turn_ok again Q next s = again s
+    turn_ok again Q (exits zero) s = again s
+    turn_ok again Q (exits (suc n)) s = Q (exits n) s
+    turn_ok again Q returns s = Q returns s
 
-    abbrev pub joinOk : {Y : Type 0} → (Y → State) → Ends → Ends
-    joinOk {Y} J Q next s = (y : Y) × (s.0 ≡ (J y).0) × Weaker s.1 (J y).1 × Unit {2}
-    joinOk J Q (exits n) s = Q (exits n) s
-    joinOk J Q returns s = Q returns s
+    abbrev pub join_ok : {Y : Type 0} → (Y → State) → Ends → Ends
+    join_ok {Y} J Q next s = (y : Y) × (s.0 ≡ (J y).0) × Weaker s.1 (J y).1 × Unit {2}
+    join_ok J Q (exits n) s = Q (exits n) s
+    join_ok J Q returns s = Q returns s
 
     -- the states at a loop's head are `at x`, for x in an order that every turn goes down in
     abbrev pub Again : {X : Type 0} → (X → X → Type 0) → (X → State) → X → State → Type 2
@@ -203,29 +203,29 @@ module _ {M : Type 1} {𝓤 : Ura M} (𝓛 : Logic 𝓤) (𝓣 : Tables 𝓤 �
 
     abbrev pub Ok : Body → Ends → State → Type 2
     Ok skip Q s = Q next s
-    Ok (seq a b) Q s = Ok a (thenOk (λ s'. Ok b Q s') Q) s
+    Ok (seq a b) Q s = Ok a (then_ok (λ s'. Ok b Q s') Q) s
     Ok (assign (place i []) rv) Q s =
-        RvOk s rv (λ v. ifLocal τs i (λ τ. Then (HasType τ v) (λ _. Q next (s.0, put_at τs s.1 i v))))
+        RvOk s rv (λ v. if_local τs i (λ τ. Then (HasType τ v) (λ _. Q next (s.0, put_at τs s.1 i v))))
     Ok (assign (place i (x ∷ st)) rv) Q s =
         RvOk s rv (λ v. Then D (λ t. Then (Stores s (place i (x ∷ st)) v t) (λ _. Q next (t, s.1))))
-    Ok (block b) Q s = Ok b (blockOk Q) s
+    Ok (block b) Q s = Ok b (block_ok Q) s
     Ok (loop b) Q s =
         Then (Type 0) (λ X. Then (X → X → Type 0) (λ ≺. Then (WellFounded ≺) (λ _. Then (X → State) (λ at. Then X (λ x.
-        Then (s.0 ≡ (at x).0) (λ _. Then (Weaker s.1 (at x).1) (λ _. (y : X) → Ok b (turnOk (Again ≺ at y) Q) (at y))))))))
-    Ok (cond c a b) Q s = OpdOk s.1 c (λ v. ifBool v (λ y. Either (Then (T y → Ok a Q s) (λ _. T (not y) → Ok b Q s))
-        (Then (Type 0) (λ Y. Then (Y → State) (λ J. Then (T y → Ok a (joinOk J Q) s) (λ _.
-        Then (T (not y) → Ok b (joinOk J Q) s) (λ _. (z : Y) → Q next (J z))))))))
+        Then (s.0 ≡ (at x).0) (λ _. Then (Weaker s.1 (at x).1) (λ _. (y : X) → Ok b (turn_ok (Again ≺ at y) Q) (at y))))))))
+    Ok (cond c a b) Q s = OpdOk s.1 c (λ v. if_bool v (λ y. Either (Then (T y → Ok a Q s) (λ _. T (not y) → Ok b Q s))
+        (Then (Type 0) (λ Y. Then (Y → State) (λ J. Then (T y → Ok a (join_ok J Q) s) (λ _.
+        Then (T (not y) → Ok b (join_ok J Q) s) (λ _. (z : Y) → Q next (J z))))))))
     Ok (switch c arms) Q s = Stuck
     Ok (exit n) Q s = Q (exits n) s
     Ok return Q s = Q returns s
     Ok (call f xs (place i [])) Q s =
         Then (Callee D) (λ F. Then (Does f F) (λ _. Then F.Arg (λ a. Then (F.Ask s.0 a) (λ _.
         OpdsOk s.1 xs (λ vs. Then (vs ≡ F.vals a) (λ _.
-        ifLocal τs i (λ τ. Then (τ ≡ F.ty) (λ _. F.know s.0 a → Q next (F.after s.0 a, put_at τs s.1 i (F.res s.0 a))))))))))
+        if_local τs i (λ τ. Then (τ ≡ F.ty) (λ _. F.know s.0 a → Q next (F.after s.0 a, put_at τs s.1 i (F.res s.0 a))))))))))
     Ok (call f xs (place i (x ∷ st))) Q s = Stuck
 
     -- ---- from these facts to the logic: operands and right sides
-    local-opd : (ls : Locals) (i : ℕ) (o : Option Val) → val_at τs ls i ≡ o → (K : Val → Type 2) → ifKnown o K
+    local-opd : (ls : Locals) (i : ℕ) (o : Option Val) → val_at τs ls i ≡ o → (K : Val → Type 2) → if_known o K
         → (v : Val) × HasOpd ls (copy (place i [])) v × K v
     local-opd ls i none e K k = elim k [ ]
     local-opd ls i (Opt.some v) e K k =
@@ -250,7 +250,7 @@ module _ {M : Type 1} {𝓤 : Ura M} (𝓛 : Logic 𝓤) (𝓣 : Tables 𝓤 �
         let more = opds-of ls xs (λ vs. K (x₁.0 ∷ vs)) x₁.2 in
         (x₁.0 ∷ more.0, (λ bs I. and_then ! (x₁.1 bs I) (more.1 bs I)), more.2)
 
-    addr-of : (s : State) (i : ℕ) (τ : Ty) (o : Option Val) → val_at τs s.1 i ≡ o → (K : Val → Type 2) → ifKnown o (λ v. ifPointer v K)
+    addr-of : (s : State) (i : ℕ) (τ : Ty) (o : Option Val) → val_at τs s.1 i ≡ o → (K : Val → Type 2) → if_known o (λ v. if_pointer v K)
         → (v : Val) × HasRv s (addr_of (place i (deref τ ∷ []))) v × K v
     addr-of s i τ none e K k = elim k [ ]
     addr-of s i τ (Opt.some (vptr b o)) e K k = (
@@ -326,15 +326,15 @@ module _ {M : Type 1} {𝓤 : Ura M} (𝓛 : Logic 𝓤) (𝓣 : Tables 𝓤 �
     forgets [] cs ls ks X w = id⊢ 𝓤 (Stars 𝓛 X)
     forgets (σ ∷ σs) cs [] [] X w = id⊢ 𝓤 _
     forgets (σ ∷ σs) cs (x ∷ ls) [] X w =
-        both (cell_of 𝓛 σ cs.0 x) (roomOf 𝓛 σ cs.0) (cells 𝓛 σs cs.1 ls ++ X) (cells 𝓛 σs cs.1 [] ++ X)
-        (room_of 𝓛 σ cs.0 x) (forgets σs cs.1 ls [] X tt)
+        both (cell_of 𝓛 σ cs.0 x) (room_of 𝓛 σ cs.0) (cells 𝓛 σs cs.1 ls ++ X) (cells 𝓛 σs cs.1 [] ++ X)
+        (room_of_lem 𝓛 σ cs.0 x) (forgets σs cs.1 ls [] X tt)
     forgets (σ ∷ σs) cs [] (none ∷ ks) X w =
-        both (roomOf 𝓛 σ cs.0) (roomOf 𝓛 σ cs.0) (cells 𝓛 σs cs.1 [] ++ X) (cells 𝓛 σs cs.1 ks ++ X)
+        both (room_of 𝓛 σ cs.0) (room_of 𝓛 σ cs.0) (cells 𝓛 σs cs.1 [] ++ X) (cells 𝓛 σs cs.1 ks ++ X)
         (id⊢ 𝓤 (H.room σ cs.0 zero)) (forgets σs cs.1 [] ks X w)
     forgets (σ ∷ σs) cs [] (Opt.some v ∷ ks) X w = absurd w
     forgets (σ ∷ σs) cs (x ∷ ls) (none ∷ ks) X w =
-        both (cell_of 𝓛 σ cs.0 x) (roomOf 𝓛 σ cs.0) (cells 𝓛 σs cs.1 ls ++ X) (cells 𝓛 σs cs.1 ks ++ X)
-        (room_of 𝓛 σ cs.0 x) (forgets σs cs.1 ls ks X w)
+        both (cell_of 𝓛 σ cs.0 x) (room_of 𝓛 σ cs.0) (cells 𝓛 σs cs.1 ls ++ X) (cells 𝓛 σs cs.1 ks ++ X)
+        (room_of_lem 𝓛 σ cs.0 x) (forgets σs cs.1 ls ks X w)
     forgets (σ ∷ σs) cs (x ∷ ls) (Opt.some v ∷ ks) X w =
         both (cell_of 𝓛 σ cs.0 x) (cell_of 𝓛 σ cs.0 (Opt.some v)) (cells 𝓛 σs cs.1 ls ++ X) (cells 𝓛 σs cs.1 ks ++ X)
         (subst (λ (y : Option Val). ent 𝓤 (Is (cell_of 𝓛 σ cs.0 x)) (Is (cell_of 𝓛 σ cs.0 y))) w.0 (id⊢ 𝓤 _))
@@ -348,20 +348,20 @@ module _ {M : Type 1} {𝓤 : Ura M} (𝓛 : Logic 𝓤) (𝓣 : Tables 𝓤 �
           (subst (λ (t : D). ent 𝓤 (Is (item s.0)) (Is (item t))) e (id⊢ 𝓤 _)) (forgets τs bs s.1 s'.1 (dies 𝓛 τs bs ++ fr) w)
 
       abbrev Runs : Body → (Out → SProp 𝓤) → State → Type 1
-      Runs b q s = Seq (Go {0}) 𝓛 (Context bs s) (runs 𝓣.C 𝓣.Λ (envOf bs) b (any_q q))
+      Runs b q s = Seq (Go {0}) 𝓛 (Context bs s) (runs 𝓣.C 𝓣.Λ (env_of bs) b (any_q q))
 
       -- what the facts at an end say, the logic's q needs
       abbrev Holds : Ends → (Out → SProp 𝓤) → Type 2
       Holds Q q = (o : Out) (s : State) → Q o s → ent 𝓤 (Stars 𝓛 (Context bs s)) (q o)
 
       then-holds : (b : Body) (Q : Ends) (q : Out → SProp 𝓤) → Holds Q q
-          → ((s : State) → Ok b Q s → ent 𝓤 (Stars 𝓛 (Context bs s)) (Wp 𝓤 H 𝓣.C 𝓣.Λ (envOf bs) b q))
-          → Holds (thenOk (λ s. Ok b Q s) Q) (after_seq 𝓤 H (Wp 𝓤 H 𝓣.C 𝓣.Λ (envOf bs) b q) q)
+          → ((s : State) → Ok b Q s → ent 𝓤 (Stars 𝓛 (Context bs s)) (Wp 𝓤 H 𝓣.C 𝓣.Λ (env_of bs) b q))
+          → Holds (then_ok (λ s. Ok b Q s) Q) (after_seq 𝓤 H (Wp 𝓤 H 𝓣.C 𝓣.Λ (env_of bs) b q) q)
       then-holds b Q q h go next s k = go s k
       then-holds b Q q h go (exits n) s k = h (exits n) s k
       then-holds b Q q h go returns s k = h returns s k
 
-      block-holds : (Q : Ends) (q : Out → SProp 𝓤) → Holds Q q → Holds (blockOk Q) (after_block 𝓤 H q)
+      block-holds : (Q : Ends) (q : Out → SProp 𝓤) → Holds Q q → Holds (block_ok Q) (after_block 𝓤 H q)
       block-holds Q q h next s k = h next s k
       block-holds Q q h (exits zero) s k = h next s k
       block-holds Q q h (exits (suc n)) s k = h (exits n) s k
@@ -378,14 +378,14 @@ module _ {M : Type 1} {𝓤 : Ura M} (𝓛 : Logic 𝓤) (𝓣 : Tables 𝓤 �
             (ex_i 𝓤 (λ (y : X). guard 𝓤 (≺ y x) (Head y)) k.0))
 
         turn_holds : (Q : Ends) (q : Out → SProp 𝓤) → Holds Q q
-            → Holds (turnOk (Again ≺ at x) Q) (after_turn 𝓤 H (Below 𝓛 ≺ (λ y. Context bs (at y)) x) q)
+            → Holds (turn_ok (Again ≺ at x) Q) (after_turn 𝓤 H (Below 𝓛 ≺ (λ y. Context bs (at y)) x) q)
         unfolding after_turn
         turn_holds Q q h next s k = below s k
         turn_holds Q q h (exits zero) s k = below s k
         turn_holds Q q h (exits (suc n)) s k = h (exits n) s k
         turn_holds Q q h returns s k = h returns s k
 
-      join-holds : {Y : Type 0} (J : Y → State) (Q : Ends) (q : Out → SProp 𝓤) → Holds Q q → ((y : Y) → Q next (J y)) → Holds (joinOk J Q) q
+      join-holds : {Y : Type 0} (J : Y → State) (Q : Ends) (q : Out → SProp 𝓤) → Holds Q q → ((y : Y) → Q next (J y)) → Holds (join_ok J Q) q
       join-holds J Q q h go next s k =
           via 𝓤 (Stars 𝓛 (Context bs (J k.0))) (becomes s (J k.0) k.1 k.2) (h next (J k.0) (go k.0))
       join-holds J Q q h go (exits n) s k = h (exits n) s k
@@ -394,19 +394,19 @@ module _ {M : Type 1} {𝓤 : Ura M} (𝓛 : Logic 𝓤) (𝓣 : Tables 𝓤 �
       abbrev Tested : Body → Body → Ends → State → Bool → Type 2
       Tested a b Q s y =
           Either (Then (T y → Ok a Q s) (λ _. T (not y) → Ok b Q s))
-          (Then (Type 0) (λ Y. Then (Y → State) (λ J. Then (T y → Ok a (joinOk J Q) s) (λ _.
-          Then (T (not y) → Ok b (joinOk J Q) s) (λ _. (z : Y) → Q next (J z))))))
+          (Then (Type 0) (λ Y. Then (Y → State) (λ J. Then (T y → Ok a (join_ok J Q) s) (λ _.
+          Then (T (not y) → Ok b (join_ok J Q) s) (λ _. (z : Y) → Q next (J z))))))
 
       -- a branch, from its arms
       module _ (c : Operand) (a b : Body) (Q : Ends) (q : Out → SProp 𝓤) (s : State) (h : Holds Q q)
           (f : (P : Ends) → Holds P q → Ok a P s → Runs a q s) (g : (P : Ends) → Holds P q → Ok b P s → Runs b q s) where
-        both-arms : (y : Bool) → Opd (Go {0}) 𝓛 (Context bs s) (envOf bs) c (vbool y) → Tested a b Q s y → Runs (cond c a b) q s
+        both-arms : (y : Bool) → Opd (Go {0}) 𝓛 (Context bs s) (env_of bs) c (vbool y) → Tested a b Q s y → Runs (cond c a b) q s
         both-arms y o (apart (if-so ⨟ if-not)) = branches ! o (λ z. f Q h (if-so z)) (λ z. g Q h (if-not z))
         both-arms y o (joined (Y ⨟ meet ⨟ if-so ⨟ if-not ⨟ after)) =
             let to-rest = join-holds meet Q q h after in
-            branches ! o (λ z. f (joinOk meet Q) to-rest (if-so z)) (λ z. g (joinOk meet Q) to-rest (if-not z))
+            branches ! o (λ z. f (join_ok meet Q) to-rest (if-so z)) (λ z. g (join_ok meet Q) to-rest (if-not z))
 
-        on_test : (v : Val) → Opd (Go {0}) 𝓛 (Context bs s) (envOf bs) c v → ifBool v (Tested a b Q s) → Runs (cond c a b) q s
+        on_test : (v : Val) → Opd (Go {0}) 𝓛 (Context bs s) (env_of bs) c v → if_bool v (Tested a b Q s) → Runs (cond c a b) q s
         on_test (vbool y) o k = both-arms y o k
         on_test vunit o k = elim k [ ]
         on_test (vptr l d) o k = elim k [ ]
@@ -421,15 +421,15 @@ module _ {M : Type 1} {𝓤 : Ura M} (𝓛 : Logic 𝓤) (𝓣 : Tables 𝓤 �
           let r : Val = F.res s.0 a in
           let t : D = F.after s.0 a in
           let Go-on : Ty → Type 2 = λ τ. Then (τ ≡ F.ty) (λ _. F.know s.0 a → Q next (t, put_at τs s.1 i r)) in
-          let os = opds-of s.1 xs (λ us. Then (us ≡ vs) (λ _. ifLocal τs i Go-on)) k in
+          let os = opds-of s.1 xs (λ us. Then (us ≡ vs) (λ _. if_local τs i Go-on)) k in
           let l = if-local τs i Go-on (two os.2) in
           let R : Val → SProp 𝓤 = λ u. H.⇛ (guard 𝓤 ((u ≡ r) × F.know s.0 a) (Is (item t))) in
           let P : SProp 𝓤 = 𝓣.C f vs R in
           use1 𝓛 (later (raw P)) (does.met s.0 a ask) $ await ! tt $
           calls_from_last ! (fm_of 𝓤 H 𝓛.laws 𝓣) (raw P) vs R (id⊢ 𝓤 P)
-          (subst (λ (us : List Val). Opds (Go {0}) 𝓛 (raw P ∷ rest bs s.1) (envOf bs) xs us) (one os.2) (os.1 bs (raw P))) (λ u.
+          (subst (λ (us : List Val). Opds (Go {0}) 𝓛 (raw P ∷ rest bs s.1) (env_of bs) xs us) (one os.2) (os.1 bs (raw P))) (λ u.
           use1 𝓛 (later (given ((u ≡ r) × F.know s.0 a) (item t))) (id⊢ 𝓤 _) $ await ! tt $ learn ! (λ φ.
-          subst (λ (z : Val). Seq (Go {0}) 𝓛 (item t ∷ rest bs s.1) (settles (envOf bs) (place i []) z (any_q q))) (sym φ.0)
+          subst (λ (z : Val). Seq (Go {0}) 𝓛 (item t ∷ rest bs s.1) (settles (env_of bs) (place i []) z (any_q q))) (sym φ.0)
           (land_last ! (from ! (stop !))
           (written bs s.1 i r (item t) l.0 (subst (λ (τ : Ty). HasType τ r) (sym (one l.1)) (does.typed s.0 a φ.1))) $
           by ! (h next (t, put_at τs s.1 i r) (two l.1 φ.1)))))
@@ -437,26 +437,26 @@ module _ {M : Type 1} {𝓤 : Ura M} (𝓛 : Logic 𝓤) (𝓣 : Tables 𝓤 �
       pub ok-runs : (b : Body) (Q : Ends) (q : Out → SProp 𝓤) → Holds Q q → (s : State) → Ok b Q s → Runs b q s
       ok-runs skip Q q h s k = skips ! $ by ! (h next s k)
       ok-runs (seq a b) Q q h s k =
-          first ! $ ok-runs a (thenOk (λ s'. Ok b Q s') Q) (after_seq 𝓤 H (Wp 𝓤 H 𝓣.C 𝓣.Λ (envOf bs) b q) q)
+          first ! $ ok-runs a (then_ok (λ s'. Ok b Q s') Q) (after_seq 𝓤 H (Wp 𝓤 H 𝓣.C 𝓣.Λ (env_of bs) b q) q)
           (then-holds b Q q h (λ s' k'. (ok-runs b Q q h s' k').prf)) s k
       ok-runs (assign (place i []) rv) Q q h s k =
-          let r = rv-of s rv (λ v. ifLocal τs i (λ τ. Then (HasType τ v) (λ _. Q next (s.0, put_at τs s.1 i v)))) k in
+          let r = rv-of s rv (λ v. if_local τs i (λ τ. Then (HasType τ v) (λ _. Q next (s.0, put_at τs s.1 i v)))) k in
           let a = if-local τs i (λ τ. Then (HasType τ r.0) (λ _. Q next (s.0, put_at τs s.1 i r.0))) r.2 in
           assigns_last ! (r.1 bs) (from ! (stop !)) (written bs s.1 i r.0 (item s.0) a.0 (one a.1)) $
           by ! (h next (s.0, put_at τs s.1 i r.0) (two a.1))
       ok-runs (assign (place i (x ∷ st)) rv) Q q h s k =
           let r = rv-of s rv (λ v. Then D (λ t. Then (Stores s (place i (x ∷ st)) v t) (λ _. Q next (t, s.1)))) k in
           assigns_last ! (r.1 bs) (one (two r.2) bs).1 (one (two r.2) bs).2 $ by ! (h next (one r.2, s.1) (two (two r.2)))
-      ok-runs (block b) Q q h s k = blocks ! $ ok-runs b (blockOk Q) (after_block 𝓤 H q) (block-holds Q q h) s k
+      ok-runs (block b) Q q h s k = blocks ! $ ok-runs b (block_ok Q) (after_block 𝓤 H q) (block-holds Q q h) s k
       ok-runs (loop b) Q q h s (X ⨟ ≺ ⨟ wf ⨟ at ⨟ x ⨟ e ⨟ w ⨟ turn) =
           record {
             prf =
                 via 𝓤 (Stars 𝓛 (Context bs (at x))) (becomes s (at x) e w)
-                (loops ! 𝓣 ≺ wf (λ y. Context bs (at y)) {q = any_q q} (λ y. ok-runs b (turnOk (Again ≺ at y) Q)
+                (loops ! 𝓣 ≺ wf (λ y. Context bs (at y)) {q = any_q q} (λ y. ok-runs b (turn_ok (Again ≺ at y) Q)
                 (after_turn 𝓤 H (Below 𝓛 ≺ (λ z. Context bs (at z)) y) q) (turn_holds ≺ at y Q q h) (at y) (turn y)) x).prf;
           }
       ok-runs (cond c a b) Q q h s k =
-          let o = opd-of s.1 c (λ v. ifBool v (Tested a b Q s)) k in
+          let o = opd-of s.1 c (λ v. if_bool v (Tested a b Q s)) k in
           on_test c a b Q q s h (λ P h' k'. ok-runs a P q h' s k') (λ P h' k'. ok-runs b P q h' s k') o.0 (o.1 bs (item s.0)) o.2
       ok-runs (switch c arms) Q q h s k = elim k [ ]
       ok-runs (exit n) Q q h s k = jumps ! $ by ! (h (exits n) s k)

@@ -6,7 +6,7 @@ use types.Kit.{ ! }
 use types.Part.{look_in, sub, whole}
 use types.Run.{look, stop, hop, from, fld, load, addr}
 use Rattle.desk.specs.declared.Message.{Message}
-use Rattle.frame.specs.Frame.{writeRule, outputRule}
+use Rattle.frame.specs.Frame.{write_rule, output_rule}
 use Rattle.frame_write.proofs.bare.Met as bare-thm
 use Rattle.frame_write.proofs.bare.Symbol as bare
 use Rattle.frame_write.proofs.write.Met as write_thm
@@ -39,7 +39,7 @@ cwmorlais-frame-write-spec 𝓤 𝓛 𝓜 𝓡 =
     ⨟ _ ⨟ (λ bs. part-read 𝓛 cell_in m (look ! 2 refl) 39 refl) ⨟ typed-part 𝓛 cell_in m is
     ⨟ _ ⨟ bare-does ℓ q ⨟ (m.clock, (m.word, (m.desks, (m.desk, (m.cell, tt)))))
     ⨟ (refl, (clock-in.get-is m is, (word_in.get-is m is, (desks-in.get-is m is, (desk-in.get-is m is, (cell_in.get-is m is, tt))))))
-    ⨟ refl ⨟ refl ⨟ λ k. _ ⨟ refl ⨟ _ ⨟ (refl, k.0, (ap (λ (x : Message). writeRule x ℓ.xs) same, ap (λ (x : Message). outputRule x ℓ.xs) same), k.2, tt)))
+    ⨟ refl ⨟ refl ⨟ λ k. _ ⨟ refl ⨟ _ ⨟ (refl, k.0, (ap (λ (x : Message). write_rule x ℓ.xs) same, ap (λ (x : Message). output_rule x ℓ.xs) same), k.2, tt)))
     -- any other
     ⨟ (λ no.
     (_ ⨟ (λ bs. addr ! (from ! (fld ! refl (hop ! (look_in ! 3 (sub ! 0 refl (whole !))) (stop !))))) ⨟ (tt, tt)

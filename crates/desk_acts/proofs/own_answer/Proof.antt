@@ -1,7 +1,7 @@
 -- `desk_acts::own_answer` meets its contract.
 -- Assumes nothing.
 use borrow.Author.Rules.{rules}
-use Rattle.desk.specs.Parts.{ownAnswer}
+use Rattle.desk.specs.Parts.{own_answer}
 use Rattle.desk_acts.proofs.own_answer.Statement.{statement}
 use Rattle.desk_acts.proofs.own_answer.Tie as tie
 
@@ -15,7 +15,7 @@ asked-message-requires : tie.Need-asked-message-requires
 asked-message-requires c κs = search rules
 
 returns : tie.Need-returns
-unfolding ownAnswer
+unfolding own_answer
 returns c = rw (c.asked-message.ensures, c.before.own-reply.ensures, c.before.before.before.change-of.ensures)
 
 pub own-answer-spec : {M : Type 1} → statement M

@@ -10,7 +10,7 @@ use borrow.Author.Tests.{ltb-true, not-false}
 use lib.Dec.{ltb}
 use Rattle.theory_refusals.specs.Refusals.{first_of}
 use Rattle.desk.specs.RuleLaws.{is-own, not-both}
-use Rattle.desk.specs.Rules.{seatLines}
+use Rattle.desk.specs.Rules.{seat_lines}
 use Rattle.desk_refusals.proofs.seat_refusal.Statement.{statement}
 use Rattle.desk_refusals.proofs.seat_refusal.Tie as tie
 
@@ -21,14 +21,14 @@ is-own-requires : tie.Need-is-own-requires
 is-own-requires c κs = search rules
 
 returns : tie.Need-returns
-unfolding seatLines first_of
+unfolding seat_lines first_of
 returns c = rw (← c.before.before.is-own.ensures, c.if1.true)
 
 waits-requires : tie.Need-waits-requires
 waits-requires c κs = search rules
 
 returns-2 : tie.Need-returns-2
-unfolding seatLines first_of
+unfolding seat_lines first_of
 returns-2 c = rw (← c.before.before.before.before.is-own.ensures, c.before.before.if1.false, ← c.before.waits.ensures, c.if2.true)
 
 is-asked-requires : tie.Need-is-asked-requires
@@ -38,7 +38,7 @@ is-answered-requires : tie.Need-is-answered-requires
 is-answered-requires c κs = search rules
 
 returns-3 : tie.Need-returns-3
-unfolding seatLines first_of
+unfolding seat_lines first_of
 returns-3 c =
     rw (
       ← c.before.before.before.before.before.before.before.is-own.ensures,
@@ -63,7 +63,7 @@ drops-kept-requires c κs =
     omega (arith, ltb-true e.cell cells (not-false within range), start.requires.1)
 
 returns-4 : tie.Need-returns-4
-unfolding seatLines first_of
+unfolding seat_lines first_of
 returns-4 c =
     rw (
       ← c.before.before.before.before.before.before.before.before.before.is-own.ensures,
@@ -81,7 +81,7 @@ writes-past-requires : tie.Need-writes-past-requires
 writes-past-requires c κs = search rules
 
 returns-5 : tie.Need-returns-5
-unfolding seatLines first_of
+unfolding seat_lines first_of
 returns-5 c =
     rw (
       ← c.before.before.before.before.before.before.before.before.before.before.before.is-own.ensures,
@@ -98,7 +98,7 @@ returns-5 c =
     )
 
 returns-6 : tie.Need-returns-6
-unfolding seatLines first_of
+unfolding seat_lines first_of
 returns-6 c =
     rw (
       ← c.before.before.before.before.before.before.before.before.before.before.before.is-own.ensures,

@@ -10,7 +10,7 @@ use lib.Dec.{ltb→lt, nltb→le, lit<}
 use lib.WfN.{lt-wf_rel}
 use mir.Syntax.{w64}
 use mir.Val.{vint, vptr}
-use Rattle.desk.specs.Desk.{placeAt, keptBy}
+use Rattle.desk.specs.Desk.{place_at, kept_by}
 use Rattle.desk.specs.StartInPlace.{kept_to, kept-none, kept-one, kept-stays}
 use Rattle.desk_acts.proofs.Acts as acts
 use Rattle.desk_acts.proofs.cells_of.Met as cells-of-thm
@@ -58,9 +58,9 @@ keep_spec 𝓤 𝓛 𝓜 𝓡 =
     ⨟ (0, zero-le) ⨟ sym (kept-none v) ⨟ (refl, (refl, (refl, (refl, tt))))
     ⨟ (λ x. let c : ℕ = x.0 in
     (tt ⨟ (tt, tt) ⨟ apart ((λ yes. let below : x.0 < n = ltb→lt x.0 n yes in let small : x.0 < 32 = omega (arith, below, need) in
-    let test = keptBy (placeAt v.tray c) d in
+    let test = kept_by (place_at v.tray c) d in
     ((tt, tt) ⨟ _ ⨟ own-place-met ⨟ (c, tt) ⨟ (((refl, omega (arith, small)), tt), small) ⨟ refl ⨟ refl ⨟ λ is-p.
-    _ ⨟ keeps-met ⨟ (placeAt v.tray c, (d, tt)) ⨟ ((is-p, (is-d, tt)), tt) ⨟ refl ⨟ refl ⨟ λ is-k.
+    _ ⨟ keeps-met ⨟ (place_at v.tray c, (d, tt)) ⨟ ((is-p, (is-d, tt)), tt) ⨟ refl ⨟ refl ⨟ λ is-k.
     joined (Unit {0}
     ⨟ (λ _. (kept_to v (c + 1), none ∷ some (vptr b o) ∷ some (vint w64 d) ∷ some (vint w64 n) ∷ some (vint w64 c) ∷ []))
     ⨟ (λ kept.

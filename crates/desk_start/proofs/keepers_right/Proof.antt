@@ -10,15 +10,15 @@ use mathlib.Core.List.{List}
 use Prim.Native.Nat.{ℕ, ◌+◌, ◌-◌, ◌<◌, ◌≤◌}
 use lib.ListN.{length, get_or, drop, length-drop}
 use lib.Seq.{get_or-drop}
-use Rattle.theory_lists.specs.Each.{mapAt, length-mapAt, getD-mapAt}
-use Rattle.theory_lists.specs.Test.{every, every_of, mapAt-turn}
+use Rattle.theory_lists.specs.Each.{map_at, length-map_at, get_or-map_at}
+use Rattle.theory_lists.specs.Test.{every, every_of, map_at-turn}
 use Rattle.desk.specs.declared.Plan.{Plan}
-use Rattle.desk.specs.Start.{keeperRight, keepersRight}
+use Rattle.desk.specs.Start.{keeper_right, keepers_right}
 use Rattle.desk_start.proofs.keepers_right.Statement.{statement}
 use Rattle.desk_start.proofs.keepers_right.Tie as tie
 
 abbrev tests : Plan → List Bool
-tests p = mapAt (keeperRight p.desks p.cells) p.keepers
+tests p = map_at (keeper_right p.desks p.cells) p.keepers
 
 abbrev invariant-loop : tie.invariant-loop
 invariant-loop plan cells right₀ c₀ right c = (c ≤ plan.cells) × (every (tests plan) ≡ (right && every (drop c (tests plan))))
@@ -31,11 +31,11 @@ past-right : (p : Plan) → every (drop p.cells (tests p)) ≡ true
 past-right p =
     every_of (drop p.cells (tests p)) (λ k h.
     let i : p.cells + k < length p.keepers =
-    omega (arith, h, length-drop p.cells (tests p), length-mapAt (keeperRight p.desks p.cells) p.keepers) in
+    omega (arith, h, length-drop p.cells (tests p), length-map_at (keeper_right p.desks p.cells) p.keepers) in
     get_or-drop p.cells (tests p) k true ∙ right (p.cells + k) (omega arith) i)
   where
     right : (c : ℕ) → p.cells ≤ c → c < length p.keepers → get_or (tests p) c true ≡ true
-    right c h i = getD-mapAt (keeperRight p.desks p.cells) p.keepers c 0 true i ∙ rw (le-ltb c p.cells h)
+    right c h i = get_or-map_at (keeper_right p.desks p.cells) p.keepers c 0 true i ∙ rw (le-ltb c p.cells h)
 
 cast-cells : tie.Need-overflow-cast-cells invariant-loop decreases-loop
 cast-cells c = search rules
@@ -61,11 +61,11 @@ loop-again c =
     let l = c.before.before.loop in
     let below : l.c < p.cells = omega arith in
     let long : length p.keepers ≡ 32 = search rules in
-    let turn = mapAt-turn (keeperRight p.desks p.cells) p.keepers 0 l.c l.right (omega arith) l.invariant.1 in
+    let turn = map_at-turn (keeper_right p.desks p.cells) p.keepers 0 l.c l.right (omega arith) l.invariant.1 in
     (omega arith, rw (lt-ltb l.c p.cells below) at turn)
 
 returns : tie.Need-returns invariant-loop decreases-loop
-unfolding keepersRight
+unfolding keepers_right
 returns c =
     let p = c.before.before.args.t1 in
     let l = c.before.loop in

@@ -7,7 +7,7 @@ use lib.Dec.{lit<}
 use mir.Syntax.{w32}
 use mir.Val.{vint}
 use Rattle.desk.specs.declared.Started.{Started}
-use Rattle.desk.specs.Start.{freshTray, startRefusal}
+use Rattle.desk.specs.Start.{fresh_tray, start_refusal}
 use Rattle.desk.specs.StartInPlace.{few-cells, start-refused, start-done}
 use Rattle.desk.specs.StartLaws.{settled, start-passed}
 use Rattle.desk_parts.proofs.Parts as parts
@@ -37,7 +37,7 @@ start_spec 𝓤 𝓛 𝓜 𝓡 =
     let keep-met = lends 𝓛 𝓜 𝓡 code.env parts.desk-record starts.keep code.calls-desk-start::keep (keep-thm.met 𝓤 𝓛 𝓜 𝓡) κ q b o γ in
     let put-own-tray-met = lends 𝓛 𝓜 𝓡 code.env parts.desk-record parts.put-own-tray code.calls-desk-parts::put-own-tray (put-own-tray-thm.met 𝓤 𝓛 𝓜 𝓡) κ q b o γ in
     let put-own-desk-met = lends 𝓛 𝓜 𝓡 code.env parts.desk-record parts.put-own-desk code.calls-desk-parts::put-own-desk (put-own-desk-thm.met 𝓤 𝓛 𝓜 𝓡) κ q b o γ in
-    let p = a.0 in let d : ℕ = a.1.0 in let is-p = is-a.0 in let is-d = is-a.1.0 in let code = startRefusal p d in
+    let p = a.0 in let d : ℕ = a.1.0 in let is-p = is-a.0 in let is-d = is-a.1.0 in let code = start_refusal p d in
     _ ⨟ start-refusal-met ⨟ (p, (d, tt)) ⨟ ((is-p, (is-d, tt)), tt) ⨟ refl ⨟ refl ⨟ λ is_code. (tt, tt)
     ⨟ _ ⨟ clear-met ⨟ tt ⨟ (tt, tt) ⨟ refl ⨟ refl ⨟ λ _. tt ⨟ tt ⨟ (tt, tt)
     ⨟ apart ((λ yes. let same = sym (start-refused p d (not-zero code yes)) in
@@ -48,7 +48,7 @@ start_spec 𝓤 𝓛 𝓜 𝓡 =
     let byte : a.1.0 < 2 ^ 8 = omega (arith, passed.1, (settled p passed.0).desks-most) in
     let told = ap (λ (s : Started). s.code) same in
     ((tt, tt) ⨟ _ ⨟ tray-met ⨟ (p, tt) ⨟ ((is-p, tt), passed.0) ⨟ refl ⨟ refl ⨟ λ is-t.
-    _ ⨟ put-own-tray-met ⨟ (freshTray p, tt) ⨟ ((is-t, tt), tt) ⨟ refl ⨟ refl ⨟ λ _. (tt, tt)
+    _ ⨟ put-own-tray-met ⨟ (fresh_tray p, tt) ⨟ ((is-t, tt), tt) ⨟ refl ⨟ refl ⨟ λ _. (tt, tt)
     ⨟ record { fits = byte } ⨟ (tt, record { fits = byte })
     ⨟ _ ⨟ put-own-desk-met ⨟ (d, tt) ⨟ (((refl, byte), tt), tt) ⨟ refl ⨟ refl ⨟ λ _. (tt, tt)
     ⨟ _ ⨟ keep-met ⨟ tt ⨟ (tt, few-cells p passed.0) ⨟ refl ⨟ refl ⨟ λ _. tt ⨟ (tt, record { fits = lit< tt })

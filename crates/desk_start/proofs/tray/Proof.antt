@@ -9,12 +9,12 @@ use mathlib.Core.List.{List}
 use Prim.Native.Nat.{ℕ, ◌-◌, ◌≤◌, ◌<◌}
 use lib.ListN.{length, get_or, set, replicate, length-replicate, get_or-replicate}
 use lib.Seq.{ext_get_or}
-use Rattle.theory_lists.specs.Replaced.{up_to, upTo-step, upTo-passed, upTo-ahead, length-upTo}
-use Rattle.theory_lists.specs.Each.{mapAt, length-mapAt, getD-mapAt}
+use Rattle.theory_lists.specs.Replaced.{up_to, up_to-step, up_to-passed, up_to-ahead, length-up_to}
+use Rattle.theory_lists.specs.Each.{map_at, length-map_at, get_or-map_at}
 use Rattle.desk.specs.declared.Place.{Place}
 use Rattle.desk.specs.declared.Plan.{Plan}
-use Rattle.desk.specs.Desk.{noPlace}
-use Rattle.desk.specs.Start.{plannedPlace, freshTray}
+use Rattle.desk.specs.Desk.{no_place}
+use Rattle.desk.specs.Start.{planned_place, fresh_tray}
 use Rattle.desk.specs.StartLaws.{settled, keeper-below}
 use Rattle.desk_start.proofs.tray.Lts.{In-loop}
 use Rattle.desk_start.proofs.tray.Reads.{Pre, Post}
@@ -26,24 +26,24 @@ abbrev planned-at : Plan → ℕ → Place
 planned-at plan k = record { keeper = get_or plan.keepers k 0 }
 
 abbrev none : List Place
-none = replicate 32 noPlace
+none = replicate 32 no_place
 
 -- with all cells passed, the places are the plan's
-all-planned : (p : Plan) → length p.keepers ≡ 32 → up_to (planned-at p) p.cells none ≡ mapAt (plannedPlace p.cells) p.keepers
+all-planned : (p : Plan) → length p.keepers ≡ 32 → up_to (planned-at p) p.cells none ≡ map_at (planned_place p.cells) p.keepers
 all-planned p long =
-    ext_get_or noPlace (up_to (planned-at p) p.cells none) (mapAt (plannedPlace p.cells) p.keepers)
-    (length-upTo (planned-at p) p.cells none ∙ length-replicate 32 noPlace ∙ sym (length-mapAt (plannedPlace p.cells) p.keepers ∙ long))
-    (λ k h. at k (omega (arith, length-upTo (planned-at p) p.cells none, length-replicate 32 noPlace)))
+    ext_get_or no_place (up_to (planned-at p) p.cells none) (map_at (planned_place p.cells) p.keepers)
+    (length-up_to (planned-at p) p.cells none ∙ length-replicate 32 no_place ∙ sym (length-map_at (planned_place p.cells) p.keepers ∙ long))
+    (λ k h. at k (omega (arith, length-up_to (planned-at p) p.cells none, length-replicate 32 no_place)))
   where
-    at : (k : ℕ) → k < 32 → get_or (up_to (planned-at p) p.cells none) k noPlace ≡ get_or (mapAt (plannedPlace p.cells) p.keepers) k noPlace
+    at : (k : ℕ) → k < 32 → get_or (up_to (planned-at p) p.cells none) k no_place ≡ get_or (map_at (planned_place p.cells) p.keepers) k no_place
     at k i =
         elim (dec_lt k p.cells) [
           | yes h ↦
-              upTo-passed (planned-at p) p.cells none k noPlace h (omega (arith, length-replicate 32 noPlace))
-              ∙ sym (getD-mapAt (plannedPlace p.cells) p.keepers k 0 noPlace (omega arith) ∙ rw (lt-ltb k p.cells h))
+              up_to-passed (planned-at p) p.cells none k no_place h (omega (arith, length-replicate 32 no_place))
+              ∙ sym (get_or-map_at (planned_place p.cells) p.keepers k 0 no_place (omega arith) ∙ rw (lt-ltb k p.cells h))
           | no h ↦
-              upTo-ahead (planned-at p) p.cells none k noPlace (omega arith) ∙ get_or-replicate 32 k noPlace noPlace i
-              ∙ sym (getD-mapAt (plannedPlace p.cells) p.keepers k 0 noPlace (omega arith) ∙ rw (le-ltb k p.cells (omega arith)))
+              up_to-ahead (planned-at p) p.cells none k no_place (omega arith) ∙ get_or-replicate 32 k no_place no_place i
+              ∙ sym (get_or-map_at (planned_place p.cells) p.keepers k 0 no_place (omega arith) ∙ rw (le-ltb k p.cells (omega arith)))
         ]
 
 abbrev invariant-loop : tie.invariant-loop
@@ -92,7 +92,7 @@ loop-again : tie.Need-loop-preserved invariant-loop decreases-loop
 loop-again c =
     let l = c.before.before.loop in
     let p = c.before.before.before.args.t1 in
-    (omega arith, ap (λ (r : List Place). set r l.c (planned-at p l.c)) l.invariant.1 ∙ upTo-step (planned-at p) l.c none)
+    (omega arith, ap (λ (r : List Place). set r l.c (planned-at p l.c)) l.invariant.1 ∙ up_to-step (planned-at p) l.c none)
 
 cast-t17 : tie.Need-overflow-cast-t17 invariant-loop decreases-loop
 cast-t17 c =
@@ -105,7 +105,7 @@ cast-t19 c =
     omega (arith, (settled at-start.args.t1 at-start.requires).cells-most)
 
 returns : tie.Need-returns invariant-loop decreases-loop
-unfolding freshTray
+unfolding fresh_tray
 returns c =
     let p = c.before.before.args.t1 in
     let l = c.before.loop in

@@ -3,8 +3,8 @@
 use mathlib.Core.Path.{refl, sym, ap, subst, ◌∙◌}
 use native.Mathlib.Omega.{arith}
 use Rattle.desk.specs.InPlace.{bring-turns as turns}
-use Rattle.desk.specs.Rules.{bringRefusal}
-use Rattle.desk.specs.Sound.{isSound}
+use Rattle.desk.specs.Rules.{bring_refusal}
+use Rattle.desk.specs.Sound.{is_sound}
 use Rattle.desk.specs.SoundLaws.{sound-rule}
 use Rattle.desk_acts.proofs.Acts as acts
 use Rattle.desk_acts.proofs.refused_answer.Met as refused-answer-thm
@@ -47,12 +47,12 @@ bring-spec 𝓤 𝓛 𝓜 𝓡 =
     let refused-answer-met = knows acts.refused-answer refused-answer.name refused-answer.routine code.calls-desk-acts::refused-answer
     (refused-answer-thm.met 𝓤 𝓛 𝓜 𝓡) κ q b o γ in
     let receive-met = does steps.receive receive.name receive.routine code.calls-desk-step::receive (receive-thm.met 𝓤 𝓛 𝓜 𝓡) κ q b o γ in
-    let x = a.0 in let is_x = is-a.0 in let n = bringRefusal t x in let turn = turns t x in
+    let x = a.0 in let is_x = is-a.0 in let n = bring_refusal t x in let turn = turns t x in
     (tt, tt) ⨟ _ ⨟ sound-met ⨟ tt ⨟ (tt, tt) ⨟ refl ⨟ refl ⨟ λ is_ok. (tt, tt)
     ⨟ _ ⨟ own-tray-met ⨟ tt ⨟ (tt, tt) ⨟ refl ⨟ refl ⨟ λ is-t. (tt, tt)
     ⨟ _ ⨟ own-desk-met ⨟ tt ⨟ (tt, tt) ⨟ refl ⨟ refl ⨟ λ is-d. (tt, tt)
     ⨟ _ ⨟ own-seat-met ⨟ tt ⨟ (tt, tt) ⨟ refl ⨟ refl ⨟ λ is-s.
-    _ ⨟ bring-code-met ⨟ (isSound t, (t.tray, (t.desk, (t.seat, (x, tt)))))
+    _ ⨟ bring-code-met ⨟ (is_sound t, (t.tray, (t.desk, (t.seat, (x, tt)))))
     ⨟ ((is_ok, (is-t, (is-d, (is-s, (is_x, tt))))), (λ ok. omega (arith, (sound-rule t ok).asked))) ⨟ refl ⨟ refl ⨟ λ is-n.
     tt ⨟ tt ⨟ (tt, tt)
     ⨟ apart ((λ yes. let same = turn.refuses yes in

@@ -2,9 +2,9 @@
 -- Assumes nothing.
 use mathlib.Core.Path.{refl, sym, ap, subst, ◌∙◌}
 use Rattle.desk.specs.InPlace.{event-turns as turns}
-use Rattle.desk.specs.Rules.{eventRefusal}
+use Rattle.desk.specs.Rules.{event_refusal}
 use Rattle.desk.specs.RuleLaws.{desk-below}
-use Rattle.desk.specs.Sound.{isSound}
+use Rattle.desk.specs.Sound.{is_sound}
 use Rattle.desk.specs.SoundLaws.{sound-rule}
 use Rattle.desk_acts.proofs.Acts as acts
 use Rattle.desk_acts.proofs.refused_answer.Met as refused-answer-thm
@@ -47,12 +47,12 @@ event-spec 𝓤 𝓛 𝓜 𝓡 =
     let refused-answer-met = knows acts.refused-answer refused-answer.name refused-answer.routine code.calls-desk-acts::refused-answer
     (refused-answer-thm.met 𝓤 𝓛 𝓜 𝓡) κ q b o γ in
     let own-met = does steps.own own.name own.routine code.calls-desk-step::own (own-thm.met 𝓤 𝓛 𝓜 𝓡) κ q b o γ in
-    let x = a.0 in let is_x = is-a.0 in let n = eventRefusal t x in let turn = turns t x in
+    let x = a.0 in let is_x = is-a.0 in let n = event_refusal t x in let turn = turns t x in
     (tt, tt) ⨟ _ ⨟ sound-met ⨟ tt ⨟ (tt, tt) ⨟ refl ⨟ refl ⨟ λ is_ok. (tt, tt)
     ⨟ _ ⨟ own-tray-met ⨟ tt ⨟ (tt, tt) ⨟ refl ⨟ refl ⨟ λ is-t. (tt, tt)
     ⨟ _ ⨟ own-desk-met ⨟ tt ⨟ (tt, tt) ⨟ refl ⨟ refl ⨟ λ is-d. (tt, tt)
     ⨟ _ ⨟ own-seat-met ⨟ tt ⨟ (tt, tt) ⨟ refl ⨟ refl ⨟ λ is-s.
-    _ ⨟ event-code-met ⨟ (isSound t, (t.tray, (t.desk, (t.seat, (x, tt)))))
+    _ ⨟ event-code-met ⨟ (is_sound t, (t.tray, (t.desk, (t.seat, (x, tt)))))
     ⨟ ((is_ok, (is-t, (is-d, (is-s, (is_x, tt))))), (λ ok. (desk-below t ok, (sound-rule t ok).tray-is.cells-most))) ⨟ refl ⨟ refl ⨟ λ is-n.
     tt ⨟ tt ⨟ (tt, tt)
     ⨟ apart ((λ yes. let same = turn.refuses yes in

@@ -10,9 +10,9 @@ use lib.Dec.{ltb→lt, nltb→le, lit<}
 use lib.WfN.{lt-wf_rel}
 use mir.Syntax.{w32, w64}
 use mir.Val.{vint, vptr}
-use Rattle.desk.specs.Desk.{cell_at, placeAt, keptBy}
-use Rattle.desk.specs.InPlace.{lostTo, lossTo, lost-none, loss-none, lost-one, lost-stays, loss-one, loss-stays, loss-small}
-use Rattle.desk.specs.Parts.{losesIf}
+use Rattle.desk.specs.Desk.{cell_at, place_at, kept_by}
+use Rattle.desk.specs.InPlace.{lost_to, loss_to, lost-none, loss-none, lost-one, lost-stays, loss-one, loss-stays, loss-small}
+use Rattle.desk.specs.Parts.{loses_if}
 use Rattle.desk_acts.proofs.Acts as acts
 use Rattle.desk_acts.proofs.cells_of.Met as cells-of-thm
 use Rattle.desk_acts.proofs.cells_of.Symbol as cells_of
@@ -50,7 +50,7 @@ abbrev left : (n : ℕ) → Count n → ℕ
 left n x = n - x.0
 
 pub lose-spec : {M : Type 1} → statement M
-unfolding code.routine lostTo
+unfolding code.routine lost_to
 lose-spec 𝓤 𝓛 𝓜 𝓡 =
     let does = lent 𝓛 𝓜 𝓡 code.env parts.desk-record in
     let knows = valued 𝓛 𝓜 𝓡 code.env parts.desk-record in
@@ -70,7 +70,7 @@ lose-spec 𝓤 𝓛 𝓜 𝓡 =
     let keeps-met = knows acts.keeps keeps.name keeps.routine code.calls-desk-sums::keeps (keeps-thm.met 𝓤 𝓛 𝓜 𝓡) κ q b o γ in
     let is-lost-met = knows acts.is_lost is_lost.name is_lost.routine code.calls-desk-acts::is-lost (is-lost-thm.met 𝓤 𝓛 𝓜 𝓡) κ q b o γ in
     let l = a.0 in let is-l = is-a.0 in let d : ℕ = t.desk in let n : ℕ = t.tray.counts.cells in
-    let fits : (c : ℕ) → c ≤ n → lossTo t l c < 2 ^ 32 = λ c h. omega (arith, loss-small t l c, h, need) in
+    let fits : (c : ℕ) → c ≤ n → loss_to t l c < 2 ^ 32 = λ c h. omega (arith, loss-small t l c, h, need) in
     (tt, tt) ⨟ _ ⨟ own-desk-met ⨟ tt ⨟ (tt, tt) ⨟ refl ⨟ refl ⨟ λ is_b.
     _ ⨟ desk-index-met ⨟ (d, tt) ⨟ ((is_b, tt), tt) ⨟ refl ⨟ refl ⨟ λ is-d. (tt, tt)
     ⨟ _ ⨟ own-counts-met ⨟ tt ⨟ (tt, tt) ⨟ refl ⨟ refl ⨟ λ is-both.
@@ -78,22 +78,22 @@ lose-spec 𝓤 𝓛 𝓜 𝓡 =
     tt ⨟ (tt, record { fits = lit< tt }) ⨟ tt ⨟ (tt, record { fits = lit< tt })
     ⨟ Count n ⨟ (λ x y. left n x < left n y) ⨟ InvImage.wf (left n) lt-wf_rel.wf
     ⨟ (λ x. (
-      lostTo t l x.0,
+      lost_to t l x.0,
       none ∷ some (vptr b o) ∷ some (val acts.clock l) ∷ some (vint w64 d) ∷ some (vint w64 n)
-          ∷ some (vint w32 (lossTo t l x.0)) ∷ some (vint w64 x.0) ∷ [],
+          ∷ some (vint w32 (loss_to t l x.0)) ∷ some (vint w64 x.0) ∷ [],
     ))
     ⨟ (0, zero-le) ⨟ sym (lost-none t l) ⨟ (refl, (refl, (refl, (refl, (ap (λ (m : ℕ). some (vint w32 m)) (sym (loss-none t l)), (refl, tt))))))
     ⨟ (λ x. let c : ℕ = x.0 in
     (tt ⨟ (tt, tt) ⨟ apart ((λ yes. let below : x.0 < n = ltb→lt x.0 n yes in let small : x.0 < 32 = omega (arith, below, need) in
-    let y = cell_at (lostTo t l c).row c in let kept = keptBy (placeAt t.tray c) d in let test = losesIf kept l y in
+    let y = cell_at (lost_to t l c).row c in let kept = kept_by (place_at t.tray c) d in let test = loses_if kept l y in
     ((tt, tt) ⨟ _ ⨟ own-place-met ⨟ (c, tt) ⨟ (((refl, omega (arith, small)), tt), small) ⨟ refl ⨟ refl ⨟ λ is-p.
-    _ ⨟ keeps-met ⨟ (placeAt t.tray c, (d, tt)) ⨟ ((is-p, (is-d, tt)), tt) ⨟ refl ⨟ refl ⨟ λ is-k. (tt, tt)
+    _ ⨟ keeps-met ⨟ (place_at t.tray c, (d, tt)) ⨟ ((is-p, (is-d, tt)), tt) ⨟ refl ⨟ refl ⨟ λ is-k. (tt, tt)
     ⨟ _ ⨟ own-cell-met ⨟ (c, tt) ⨟ (((refl, omega (arith, small)), tt), small) ⨟ refl ⨟ refl ⨟ λ is_y.
     _ ⨟ is-lost-met ⨟ (kept, (l, (y, tt))) ⨟ ((is-k, (is-l, (is_y, tt))), tt) ⨟ refl ⨟ refl ⨟ λ is-t.
     joined (Unit {0} ⨟ (λ _. (
-      lostTo t l (c + 1),
+      lost_to t l (c + 1),
       none ∷ some (vptr b o) ∷ some (val acts.clock l) ∷ some (vint w64 d) ∷ some (vint w64 n)
-          ∷ some (vint w32 (lossTo t l (c + 1))) ∷ some (vint w64 c) ∷ [],
+          ∷ some (vint w32 (loss_to t l (c + 1))) ∷ some (vint w64 c) ∷ [],
     ))
     ⨟ (λ lost. let e = is_true test lost in
     ((tt, tt) ⨟ _ ⨟ clear-own-met ⨟ (c, tt) ⨟ (((refl, omega (arith, small)), tt), small) ⨟ refl ⨟ refl ⨟ λ _.
@@ -105,4 +105,4 @@ lose-spec 𝓤 𝓛 𝓜 𝓡 =
     ⨟ ((c + 1, omega (arith, below)), omega (arith, below), refl, (refl, (refl, (refl, (refl, (refl, (refl, tt)))))), tt))))))
     ⨟ (λ no. let end : x.0 ≡ n = omega (arith, nltb→le x.0 n no, x.1) in
     ((tt, record { fits = fits x.0 x.1 }) ⨟ _ ⨟ refl
-    ⨟ (ap (λ (m : ℕ). vint w32 (lossTo t l m)) end, (refl, fits n (omega arith)), ap (lostTo t l) end, tt)))))))
+    ⨟ (ap (λ (m : ℕ). vint w32 (loss_to t l m)) end, (refl, fits n (omega arith)), ap (lost_to t l) end, tt)))))))

@@ -8,11 +8,11 @@ use borrow.Author.Tests.{eqb-true}
 use lib.Dec.{eqb}
 use mir.Syntax.{w8, w64}
 use mir.Val.{vint, vbool, vptr}
-use Rattle.desk.specs.Desk.{noCell, placeAt}
-use Rattle.desk.specs.InPlace.{storeIn, named_by, keptHere, changeIn, askedIn, storedIn, ownIn, answer_in, own_in}
-use Rattle.desk.specs.Parts.{askingSeat, raisedSeat, change-asks, change-stores}
+use Rattle.desk.specs.Desk.{no_cell, place_at}
+use Rattle.desk.specs.InPlace.{store_in, named_by, kept_here, change_in, asked_in, stored_in, own_in, answer_in, own_in_lem}
+use Rattle.desk.specs.Parts.{asking_seat, raised_seat, change-asks, change-stores}
 use Rattle.desk.specs.RuleLaws.{allowed, desk-below, event-place}
-use Rattle.desk.specs.Rules.{withSeat, holds}
+use Rattle.desk.specs.Rules.{with_seat, holds}
 use Rattle.desk_acts.proofs.Acts as acts
 use Rattle.desk_acts.proofs.asking.Met as asking-thm
 use Rattle.desk_acts.proofs.asking.Symbol as asking
@@ -58,7 +58,7 @@ use Rattle.desk_step.specs.contracts.own.Key as key
 use Rattle.desk_step.proofs.own.Statement.{statement}
 
 pub own-spec : {M : Type 1} → statement M
-unfolding code.routine ownIn answer_in
+unfolding code.routine own_in answer_in
 own-spec 𝓤 𝓛 𝓜 𝓡 =
     let does = lent 𝓛 𝓜 𝓡 code.env parts.desk-record in
     let knows = valued 𝓛 𝓜 𝓡 code.env parts.desk-record in
@@ -88,17 +88,17 @@ own-spec 𝓤 𝓛 𝓜 𝓡 =
     let own-answer-met = knows acts.own-answer own-answer.name own-answer.routine code.calls-desk-acts::own-answer
     (own-answer-thm.met 𝓤 𝓛 𝓜 𝓡) κ q b o γ in
     let e = a.0 in let is-e = is-a.0 in let d : ℕ = t.desk in let c : ℕ = e.cell in let s = t.seat in let x = named_by t e in
-    let kept = keptHere t e in let ch : ℕ = changeIn t e in
+    let kept = kept_here t e in let ch : ℕ = change_in t e in
     let ok = allowed t e need in let small = desk-below t ok.sound in let below = event-place t e need in
-    let asked = withSeat t (askingSeat s d e) in let u₁ = askedIn t e in
-    let stored = storeIn u₁ c (raisedSeat s d) e.word in let u₂ = storedIn t e in let u₃ = ownIn t e in let same = own_in t e need in
+    let asked = with_seat t (asking_seat s d e) in let u₁ = asked_in t e in
+    let stored = store_in u₁ c (raised_seat s d) e.word in let u₂ = stored_in t e in let u₃ = own_in t e in let same = own_in_lem t e need in
     (tt, tt) ⨟ _ ⨟ own-desk-met ⨟ tt ⨟ (tt, tt) ⨟ refl ⨟ refl ⨟ λ is_b.
     _ ⨟ desk-index-met ⨟ (d, tt) ⨟ ((is_b, tt), tt) ⨟ refl ⨟ refl ⨟ λ is-d.
     _ ⨟ cell-of-met ⨟ (e, tt) ⨟ ((is-e, tt), tt) ⨟ refl ⨟ refl ⨟ λ is_c. (tt, tt)
     ⨟ _ ⨟ own-seat-met ⨟ tt ⨟ (tt, tt) ⨟ refl ⨟ refl ⨟ λ is-s. (tt, tt)
     ⨟ _ ⨟ own-cell-met ⨟ (c, tt) ⨟ ((is_c, tt), below) ⨟ refl ⨟ refl ⨟ λ is_x. (tt, tt)
     ⨟ _ ⨟ own-place-met ⨟ (c, tt) ⨟ ((is_c, tt), below) ⨟ refl ⨟ refl ⨟ λ is-p.
-    _ ⨟ keeps-met ⨟ (placeAt t.tray c, (d, tt)) ⨟ ((is-p, (is-d, tt)), tt) ⨟ refl ⨟ refl ⨟ λ is-k.
+    _ ⨟ keeps-met ⨟ (place_at t.tray c, (d, tt)) ⨟ ((is-p, (is-d, tt)), tt) ⨟ refl ⨟ refl ⨟ λ is-k.
     _ ⨟ change-of-met ⨟ (kept, (x, (e, tt))) ⨟ ((is-k, (is_x, (is-e, tt))), tt) ⨟ refl ⨟ refl ⨟ λ is-h. tt ⨟ tt ⨟ (tt, tt)
     ⨟ joined (Unit {0} ⨟ (λ _. (
       u₁,
@@ -108,7 +108,7 @@ own-spec 𝓤 𝓛 𝓜 𝓡 =
     ⨟ (λ yes. ((tt, tt) ⨟ _ ⨟ asking-met ⨟ (s, (d, (e, tt)))
     ⨟ ((is-s, (is-d, (is-e, tt))), (small, below, ok.seat.below, change-asks kept x e (eqb-true ch 1 (is_true (eqb ch 1) yes))))
     ⨟ refl ⨟ refl ⨟ λ is-q.
-    _ ⨟ put-own-seat-met ⨟ (askingSeat s d e, tt) ⨟ ((is-q, tt), tt) ⨟ refl ⨟ refl ⨟ λ _.
+    _ ⨟ put-own-seat-met ⨟ (asking_seat s d e, tt) ⨟ ((is-q, tt), tt) ⨟ refl ⨟ refl ⨟ λ _.
     (tt, sym (if_yes (eqb ch 1) asked t yes), (refl, (refl, (refl, (refl, (refl, (refl, (refl, (refl, (refl, tt))))))))), tt)))
     ⨟ (λ no. (tt, sym (if_no (eqb ch 1) asked t no), (refl, (refl, (refl, (refl, (refl, (refl, (refl, (refl, (refl, tt))))))))), tt))
     ⨟ (λ _. (tt ⨟ tt ⨟ (tt, tt)
@@ -120,7 +120,7 @@ own-spec 𝓤 𝓛 𝓜 𝓡 =
     ⨟ (λ yes. ((tt, tt) ⨟ _ ⨟ raising-met ⨟ (s, (d, tt))
     ⨟ ((is-s, (is-d, tt)), (small, ok.seat.below (change-stores kept x e (eqb-true ch 2 (is_true (eqb ch 2) yes))))) ⨟ refl ⨟ refl ⨟ λ is-q.
     _ ⨟ new-word-met ⨟ (e, tt) ⨟ ((is-e, tt), tt) ⨟ refl ⨟ refl ⨟ λ is-w.
-    _ ⨟ store-met ⨟ (c, (raisedSeat s d, (e.word, tt))) ⨟ ((is_c, (is-q, (is-w, tt))), below) ⨟ refl ⨟ refl ⨟ λ _.
+    _ ⨟ store-met ⨟ (c, (raised_seat s d, (e.word, tt))) ⨟ ((is_c, (is-q, (is-w, tt))), below) ⨟ refl ⨟ refl ⨟ λ _.
     (tt, sym (if_yes (eqb ch 2) stored u₁ yes), (refl, (refl, (refl, (refl, (refl, (refl, (refl, (refl, (refl, tt))))))))), tt)))
     ⨟ (λ no. (tt, sym (if_no (eqb ch 2) stored u₁ no), (refl, (refl, (refl, (refl, (refl, (refl, (refl, (refl, (refl, tt))))))))), tt))
     ⨟ (λ _. (tt ⨟ tt ⨟ (tt, tt)
@@ -130,8 +130,8 @@ own-spec 𝓤 𝓛 𝓜 𝓡 =
           ∷ some (val parts.cell x) ∷ some (vbool kept) ∷ some (vint w8 ch) ∷ [],
     ))
     ⨟ (λ yes. ((tt, tt) ⨟ _ ⨟ clear-own-met ⨟ (c, tt) ⨟ ((is_c, tt), below) ⨟ refl ⨟ refl ⨟ λ _.
-    (tt, sym (if_yes (eqb ch 3) (holds u₂ c noCell) u₂ yes), (refl, (refl, (refl, (refl, (refl, (refl, (refl, (refl, (refl, tt))))))))), tt)))
-    ⨟ (λ no. (tt, sym (if_no (eqb ch 3) (holds u₂ c noCell) u₂ no), (refl, (refl, (refl, (refl, (refl, (refl, (refl, (refl, (refl, tt))))))))), tt))
+    (tt, sym (if_yes (eqb ch 3) (holds u₂ c no_cell) u₂ yes), (refl, (refl, (refl, (refl, (refl, (refl, (refl, (refl, (refl, tt))))))))), tt)))
+    ⨟ (λ no. (tt, sym (if_no (eqb ch 3) (holds u₂ c no_cell) u₂ no), (refl, (refl, (refl, (refl, (refl, (refl, (refl, (refl, (refl, tt))))))))), tt))
     ⨟ (λ _. ((tt, tt) ⨟ _ ⨟ own-counts-met ⨟ tt ⨟ (tt, tt) ⨟ refl ⨟ refl ⨟ λ is-n. (tt, tt)
     ⨟ _ ⨟ own-seat-met ⨟ tt ⨟ (tt, tt) ⨟ refl ⨟ refl ⨟ λ is-u.
     _ ⨟ own-answer-met ⨟ (kept, (x, (e, (u₃.tray.counts, (d, (u₃.seat, tt))))))

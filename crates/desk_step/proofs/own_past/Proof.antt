@@ -16,7 +16,7 @@ use Rattle.desk_sums.proofs.Sums as adds
 use Rattle.desk_sums.proofs.Sums.{Turn, Later, falls, start, count-is, count_fits, next, nearer, ended, laid}
 use Rattle.desk_sums.proofs.rest.Met as rest-thm
 use Rattle.desk_sums.proofs.rest.Symbol as rest
-use Rattle.desk_sums.specs.Rows.{pastSum, past-none, past_next}
+use Rattle.desk_sums.specs.Rows.{past_sum, past-none, past_next}
 use Rattle.desk_sums.specs.declared.Sum.{Sum}
 use Rattle.walks.proofs.Callees.{lent, valued}
 use Rattle.walks.proofs.Lent.{calling, W}
@@ -38,7 +38,7 @@ own-past-spec 𝓤 𝓛 𝓜 𝓡 =
     let rest-met = knows adds.rest rest.name rest.routine code.calls-desk-sums::rest (rest-thm.met 𝓤 𝓛 𝓜 𝓡) κ q b o γ in
     let typed = has-type (W 𝓛 𝓜 𝓡 code.env) adds.sum in
     let n : ℕ = a.0 in let s : Sum = a.1.0 in let is-s = is-a.1.0 in
-    let f : ℕ → Sum = λ c. pastSum (cell_at t.row) n s c in
+    let f : ℕ → Sum = λ c. past_sum (cell_at t.row) n s c in
     let first : f n ≡ s = past-none (cell_at t.row) s n in
     typed s is-s ⨟ (tt, record { fits = is-a.0.1 }) ⨟ Turn f n 32 ⨟ Later f n 32 ⨟ falls f n 32
     ⨟ (λ x. (t, none ∷ some (vptr b o) ∷ none ∷ none ∷ some (val adds.sum (f x.c)) ∷ some (vint w64 x.c) ∷ []))

@@ -8,7 +8,7 @@ use native.Mathlib.Omega.{arith}
 use lib.Dec.{ltb→lt, lit<}
 use mir.Syntax.{w64}
 use mir.Val.{vint, vptr}
-use Rattle.desk.specs.Desk.{cell_at, placeAt, keptBy}
+use Rattle.desk.specs.Desk.{cell_at, place_at, kept_by}
 use Rattle.desk_acts.proofs.Acts as acts
 use Rattle.desk_parts.proofs.Parts as parts
 use Rattle.desk_parts.proofs.own_cell.Met as own-cell-thm
@@ -23,8 +23,8 @@ use Rattle.desk_sums.proofs.keeps.Met as keeps-thm
 use Rattle.desk_sums.proofs.keeps.Symbol as keeps
 use Rattle.desk_sums.proofs.no_sum.Met as no-sum-thm
 use Rattle.desk_sums.proofs.no_sum.Symbol as no-sum
-use Rattle.desk_sums.specs.Rows.{usedSum, used-none, used-next}
-use Rattle.desk_sums.specs.Sums.{noSum}
+use Rattle.desk_sums.specs.Rows.{used_sum, used-none, used-next}
+use Rattle.desk_sums.specs.Sums.{no_sum}
 use Rattle.desk_sums.specs.declared.Sum.{Sum}
 use Rattle.walks.proofs.Callees.{lent, valued}
 use Rattle.walks.proofs.Lent.{calling, W}
@@ -50,8 +50,8 @@ own-used-spec 𝓤 𝓛 𝓜 𝓡 =
     let add-kept-met = knows adds.add_kept add_kept.name add_kept.routine code.calls-desk-sums::add-kept (add-kept-thm.met 𝓤 𝓛 𝓜 𝓡) κ q b o γ in
     let typed = has-type (W 𝓛 𝓜 𝓡 code.env) adds.sum in
     let d : ℕ = a.0 in let n : ℕ = a.1.0 in let is-d = is-a.0 in
-    let f : ℕ → Sum = λ c. usedSum (placeAt t.tray) (cell_at t.row) d noSum c in
-    let first : f 0 ≡ noSum = used-none (placeAt t.tray) (cell_at t.row) d noSum in
+    let f : ℕ → Sum = λ c. used_sum (place_at t.tray) (cell_at t.row) d no_sum c in
+    let first : f 0 ≡ no_sum = used-none (place_at t.tray) (cell_at t.row) d no_sum in
     _ ⨟ no-sum-met ⨟ tt ⨟ (tt, tt) ⨟ refl ⨟ refl ⨟ λ is-s.
     tt ⨟ (tt, record { fits = lit< tt }) ⨟ Turn f 0 n ⨟ Later f 0 n ⨟ falls f 0 n
     ⨟ (λ x. (
@@ -61,12 +61,12 @@ own-used-spec 𝓤 𝓛 𝓜 𝓡 =
     ⨟ start f 0 n (omega arith) first is-s ⨟ refl ⨟ (refl, (refl, (refl, (laid first, (refl, tt)))))
     ⨟ (λ x. let c : ℕ = x.c in
     (tt ⨟ (tt, tt) ⨟ apart ((λ yes. let h : x.c < n = ltb→lt x.c n yes in let is_c = count-is x h need in
-    let kept = keptBy (placeAt t.tray c) d in
+    let kept = kept_by (place_at t.tray c) d in
     ((tt, tt) ⨟ _ ⨟ own-place-met ⨟ (c, tt) ⨟ ((is_c, tt), omega (arith, h, need)) ⨟ refl ⨟ refl ⨟ λ is-p.
-    _ ⨟ keeps-met ⨟ (placeAt t.tray c, (d, tt)) ⨟ ((is-p, (is-d, tt)), tt) ⨟ refl ⨟ refl ⨟ λ is-k. (tt, tt)
+    _ ⨟ keeps-met ⨟ (place_at t.tray c, (d, tt)) ⨟ ((is-p, (is-d, tt)), tt) ⨟ refl ⨟ refl ⨟ λ is-k. (tt, tt)
     ⨟ _ ⨟ own-cell-met ⨟ (c, tt) ⨟ ((is_c, tt), omega (arith, h, need)) ⨟ refl ⨟ refl ⨟ λ is_x.
     _ ⨟ add-kept-met ⨟ (f c, (kept, (cell_at t.row c, tt))) ⨟ ((x.is, (is-k, (is_x, tt))), tt) ⨟ refl ⨟ refl ⨟ λ is-u.
-    let more = used-next (placeAt t.tray) (cell_at t.row) d noSum x.c in
+    let more = used-next (place_at t.tray) (cell_at t.row) d no_sum x.c in
     tt ⨟ count_fits x h need ⨟ (tt, count_fits x h need)
     ⨟ (next x h more is-u, nearer x h more is-u, refl, (refl, (refl, (refl, (laid more, (refl, tt))))), tt)))
     ⨟ (λ over. (typed (f c) x.is ⨟ _ ⨟ refl ⨟ ended x t over))))))

@@ -2,8 +2,8 @@
 -- Assumes nothing.
 use mathlib.Core.Path.{refl, ap, subst}
 use Prim.Native.Nat.{ℕ}
-use Rattle.desk.specs.InPlace.{lostTo, lossIn, without, bringIn, bring-in}
-use Rattle.desk.specs.Parts.{homeSeat, broughtCell}
+use Rattle.desk.specs.InPlace.{lost_to, loss_in, without, bring_in, bring-in}
+use Rattle.desk.specs.Parts.{home_seat, brought_cell}
 use Rattle.desk.specs.RuleLaws.{brought, bring-place}
 use Rattle.desk.specs.SoundLaws.{sound-rule}
 use Rattle.desk_acts.proofs.Acts as acts
@@ -39,7 +39,7 @@ use Rattle.desk_step.specs.contracts.receive.Key as key
 use Rattle.desk_step.proofs.receive.Statement.{statement}
 
 pub receive-spec : {M : Type 1} → statement M
-unfolding code.routine bringIn lostTo
+unfolding code.routine bring_in lost_to
 receive-spec 𝓤 𝓛 𝓜 𝓡 =
     let does = lent 𝓛 𝓜 𝓡 code.env parts.desk-record in
     let knows = valued 𝓛 𝓜 𝓡 code.env parts.desk-record in
@@ -63,16 +63,16 @@ receive-spec 𝓤 𝓛 𝓜 𝓡 =
     (brought-answer-thm.met 𝓤 𝓛 𝓜 𝓡) κ q b o γ in
     let m = a.0 in let is_m = is-a.0 in let s = t.seat in let c : ℕ = m.cell in let stamp = m.clock in
     let below = bring-place t m need in let few = (sound-rule t (brought t m need).sound).tray-is.cells-most in
-    let n : ℕ = lossIn (without t m) stamp in let same = bring-in t (row-long t is) m need in
+    let n : ℕ = loss_in (without t m) stamp in let same = bring-in t (row-long t is) m need in
     _ ⨟ named-cell-met ⨟ (m, tt) ⨟ ((is_m, tt), tt) ⨟ refl ⨟ refl ⨟ λ is_c. (tt, tt)
     ⨟ _ ⨟ own-seat-met ⨟ tt ⨟ (tt, tt) ⨟ refl ⨟ refl ⨟ λ is-s. (tt, tt)
     ⨟ _ ⨟ clear-own-met ⨟ (c, tt) ⨟ ((is_c, tt), below) ⨟ refl ⨟ refl ⨟ λ _. (tt, tt)
     ⨟ _ ⨟ sent-clock-met ⨟ (m, tt) ⨟ ((is_m, tt), tt) ⨟ refl ⨟ refl ⨟ λ is-k.
     _ ⨟ lose-met ⨟ (stamp, tt) ⨟ ((is-k, tt), few) ⨟ refl ⨟ refl ⨟ λ is-n. (tt, tt)
     ⨟ _ ⨟ brought-by-met ⨟ (s, (m, tt)) ⨟ ((is-s, (is_m, tt)), tt) ⨟ refl ⨟ refl ⨟ λ is_x.
-    _ ⨟ put-own-met ⨟ (c, (broughtCell s.served m.word stamp, tt)) ⨟ ((is_c, (is_x, tt)), below) ⨟ refl ⨟ refl ⨟ λ _. (tt, tt)
+    _ ⨟ put-own-met ⨟ (c, (brought_cell s.served m.word stamp, tt)) ⨟ ((is_c, (is_x, tt)), below) ⨟ refl ⨟ refl ⨟ λ _. (tt, tt)
     ⨟ _ ⨟ sent-clock-met ⨟ (m, tt) ⨟ ((is_m, tt), tt) ⨟ refl ⨟ refl ⨟ λ is-l.
     _ ⨟ home-met ⨟ (s, (stamp, tt)) ⨟ ((is-s, (is-l, tt)), tt) ⨟ refl ⨟ refl ⨟ λ is-h.
-    _ ⨟ put-own-seat-met ⨟ (homeSeat s stamp, tt) ⨟ ((is-h, tt), tt) ⨟ refl ⨟ refl ⨟ λ _.
+    _ ⨟ put-own-seat-met ⨟ (home_seat s stamp, tt) ⨟ ((is-h, tt), tt) ⨟ refl ⨟ refl ⨟ λ _.
     _ ⨟ brought-answer-met ⨟ (n, (m, tt)) ⨟ ((is-n, (is_m, tt)), tt) ⨟ refl ⨟ refl ⨟ λ is-r.
     _ ⨟ refl ⨟ (ap (val acts.answer) same.0, subst (IsOf acts.answer) same.0 is-r, same.1, tt))

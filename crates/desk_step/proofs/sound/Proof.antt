@@ -4,7 +4,7 @@ use mathlib.Core.Path.{refl, ap}
 use Prim.Native.Nat.{ℕ, ◌≤◌}
 use native.Mathlib.Omega.{arith}
 use mir.Val.{vbool}
-use Rattle.desk.specs.Desk.{cell_at, placeAt}
+use Rattle.desk.specs.Desk.{cell_at, place_at}
 use Rattle.desk_acts.proofs.Acts as acts
 use Rattle.desk_acts.proofs.desk_index.Met as desk-index-thm
 use Rattle.desk_acts.proofs.desk_index.Symbol as desk-index
@@ -22,8 +22,8 @@ use Rattle.desk_sums.proofs.record_fits.Met as record-fits-thm
 use Rattle.desk_sums.proofs.record_fits.Symbol as record-fits
 use Rattle.desk_sums.proofs.row_count.Met as row-count-thm
 use Rattle.desk_sums.proofs.row_count.Symbol as row_count
-use Rattle.desk_sums.specs.Rows.{usedSum, pastSum, record-sound}
-use Rattle.desk_sums.specs.Sums.{noSum, rowCount}
+use Rattle.desk_sums.specs.Rows.{used_sum, past_sum, record-sound}
+use Rattle.desk_sums.specs.Sums.{no_sum, row_count}
 use Rattle.desk_sums.specs.declared.Sum.{Sum}
 use Rattle.walks.proofs.Callees.{lent, valued}
 use Rattle.walks.proofs.Lent.{calling}
@@ -58,8 +58,8 @@ sound-spec 𝓤 𝓛 𝓜 𝓡 =
     (row-count-thm.met 𝓤 𝓛 𝓜 𝓡) κ q b o γ in
     let record-fits-met = knows adds.record-fits record-fits.name record-fits.routine code.calls-desk-sums::record-fits
     (record-fits-thm.met 𝓤 𝓛 𝓜 𝓡) κ q b o γ in
-    let d : ℕ = t.desk in let n : ℕ = rowCount t.tray.counts in let few : rowCount t.tray.counts ≤ 32 = omega arith in
-    let used : Sum = usedSum (placeAt t.tray) (cell_at t.row) d noSum n in let row : Sum = pastSum (cell_at t.row) n used 32 in
+    let d : ℕ = t.desk in let n : ℕ = row_count t.tray.counts in let few : row_count t.tray.counts ≤ 32 = omega arith in
+    let used : Sum = used_sum (place_at t.tray) (cell_at t.row) d no_sum n in let row : Sum = past_sum (cell_at t.row) n used 32 in
     (tt, tt) ⨟ _ ⨟ own-desk-met ⨟ tt ⨟ (tt, tt) ⨟ refl ⨟ refl ⨟ λ is_b. (tt, tt)
     ⨟ _ ⨟ own-counts-met ⨟ tt ⨟ (tt, tt) ⨟ refl ⨟ refl ⨟ λ is-both.
     _ ⨟ row-count-met ⨟ (t.tray.counts, tt) ⨟ ((is-both, tt), tt) ⨟ refl ⨟ refl ⨟ λ is-n. (tt, tt)

@@ -1,7 +1,7 @@
 -- `desk_step::store` meets its contract.
 -- Assumes nothing.
 use mathlib.Core.Path.{refl}
-use Rattle.desk.specs.Desk.{heldCell}
+use Rattle.desk.specs.Desk.{held_cell}
 use Rattle.desk_acts.proofs.Acts as acts
 use Rattle.desk_acts.proofs.storing.Met as storing-thm
 use Rattle.desk_acts.proofs.storing.Symbol as storing
@@ -32,5 +32,5 @@ store_spec 𝓤 𝓛 𝓜 𝓡 =
     let c = a.0 in let s = a.1.0 in let w = a.1.1.0 in let is_c = is-a.0 in let is-s = is-a.1.0 in let is-w = is-a.1.1.0 in
     (tt, tt) ⨟ _ ⨟ put-own-seat-met ⨟ (s, tt) ⨟ ((is-s, tt), tt) ⨟ refl ⨟ refl ⨟ λ _. (tt, tt)
     ⨟ _ ⨟ storing-met ⨟ (s, (w, tt)) ⨟ ((is-s, (is-w, tt)), tt) ⨟ refl ⨟ refl ⨟ λ is_x.
-    _ ⨟ put-own-met ⨟ (c, (heldCell w s.clock, tt)) ⨟ ((is_c, (is_x, tt)), need) ⨟ refl ⨟ refl ⨟ λ _. (tt, tt)
+    _ ⨟ put-own-met ⨟ (c, (held_cell w s.clock, tt)) ⨟ ((is_c, (is_x, tt)), need) ⨟ refl ⨟ refl ⨟ λ _. (tt, tt)
     ⨟ _ ⨟ refl ⨟ (refl, refl, refl, tt))

@@ -2,8 +2,8 @@
 -- Assumes nothing.
 use mathlib.Core.Path.{refl, ap, subst}
 use Rattle.desk.specs.Desk.{cell_at}
-use Rattle.desk.specs.InPlace.{lostIn, lossIn, storeIn, take-stored}
-use Rattle.desk.specs.Parts.{tookSeat}
+use Rattle.desk.specs.InPlace.{lost_in, loss_in, store_in, take-stored}
+use Rattle.desk.specs.Parts.{took_seat}
 use Rattle.desk.specs.RuleLaws.{served, serve-place}
 use Rattle.desk.specs.SoundLaws.{sound-rule}
 use Rattle.desk_acts.proofs.Acts as acts
@@ -58,7 +58,7 @@ take-write-spec 𝓤 𝓛 𝓜 𝓡 =
     (served-answer-thm.met 𝓤 𝓛 𝓜 𝓡) κ q b o γ in
     let m = a.0 in let is_m = is-a.0 in let there = serve-place t m need in let same = take-stored t (row-long t is) m need in
     let few = (sound-rule t (served t m need).sound).tray-is.cells-most in
-    let s = tookSeat t.seat m.clock in let u = storeIn t m.cell s m.word in let k = m.clock in
+    let s = took_seat t.seat m.clock in let u = store_in t m.cell s m.word in let k = m.clock in
     (tt, tt) ⨟ _ ⨟ own-seat-met ⨟ tt ⨟ (tt, tt) ⨟ refl ⨟ refl ⨟ λ is-s.
     _ ⨟ sent-clock-met ⨟ (m, tt) ⨟ ((is_m, tt), tt) ⨟ refl ⨟ refl ⨟ λ is-l.
     _ ⨟ took-met ⨟ (t.seat, (k, tt)) ⨟ ((is-s, (is-l, tt)), tt) ⨟ refl ⨟ refl ⨟ λ is-u. (tt, tt)
@@ -69,5 +69,5 @@ take-write-spec 𝓤 𝓛 𝓜 𝓡 =
     _ ⨟ lose-met ⨟ (k, tt) ⨟ ((is-k, tt), few) ⨟ refl ⨟ refl ⨟ λ is-n. (tt, tt)
     ⨟ _ ⨟ named-cell-met ⨟ (m, tt) ⨟ ((is_m, tt), tt) ⨟ refl ⨟ refl ⨟ λ is-d.
     _ ⨟ own-cell-met ⨟ (m.cell, tt) ⨟ ((is-d, tt), there.0) ⨟ refl ⨟ refl ⨟ λ is_x.
-    _ ⨟ served-answer-met ⨟ (lossIn u k, (m, (cell_at (lostIn u k).row m.cell, tt))) ⨟ ((is-n, (is_m, (is_x, tt))), there.1) ⨟ refl ⨟ refl ⨟ λ is-r.
+    _ ⨟ served-answer-met ⨟ (loss_in u k, (m, (cell_at (lost_in u k).row m.cell, tt))) ⨟ ((is-n, (is_m, (is_x, tt))), there.1) ⨟ refl ⨟ refl ⨟ λ is-r.
     _ ⨟ refl ⨟ (ap (val acts.answer) same.0, subst (IsOf acts.answer) same.0 is-r, same.1, tt))

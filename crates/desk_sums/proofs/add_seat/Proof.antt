@@ -1,6 +1,6 @@
 -- `desk_sums::add_seat` meets its contract.
 -- Assumes nothing.
-use Rattle.desk_sums.specs.Sums.{addSeat}
+use Rattle.desk_sums.specs.Sums.{add_seat}
 use Rattle.desk_sums.specs.Laws.{byte-is}
 use borrow.Author.Rules.{rules}
 use Rattle.desk_sums.proofs.add_seat.Statement.{statement}
@@ -22,7 +22,7 @@ cast-t16 : tie.Need-overflow-cast-t16
 cast-t16 c = search rules
 
 returns : tie.Need-returns
-unfolding addSeat
+unfolding add_seat
 returns c =
     let two = c.before.before.before.before in
     rw (

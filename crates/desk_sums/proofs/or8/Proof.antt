@@ -3,7 +3,7 @@
 use mathlib.Core.Path.{◌≡◌, refl, ap}
 use lib.ListN.{length, get_or}
 use Rattle.theory_lists.specs.Or.{ored, listed, listed-all}
-use Rattle.desk_sums.specs.Sums.{orPast}
+use Rattle.desk_sums.specs.Sums.{or_past}
 use borrow.Author.Rules.{rules}
 use Rattle.desk_sums.proofs.or8.Statement.{statement}
 use Rattle.desk_sums.proofs.or8.Tie as tie
@@ -33,7 +33,7 @@ element-copy-out-result-8 : tie.Need-element-copy-out-result-8
 element-copy-out-result-8 c = search rules
 
 returns : tie.Need-returns
-unfolding orPast ored listed
+unfolding or_past ored listed
 returns c =
     let l = c.before.before.before.before.before.before.before.before.args.t1.n in
     let long : length l ≡ 8 = search rules in

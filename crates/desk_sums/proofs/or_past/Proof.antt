@@ -6,7 +6,7 @@ use mathlib.Core.Path.{◌≡◌, refl, sym}
 use Prim.Native.Nat.{◌-◌}
 use lib.ListN.{length, drop}
 use Rattle.theory_lists.specs.Or.{ored, ored-turn, ored-end}
-use Rattle.desk_sums.specs.Sums.{orPast}
+use Rattle.desk_sums.specs.Sums.{or_past}
 use Rattle.desk_sums.proofs.or_past.Statement.{statement}
 use Rattle.desk_sums.proofs.or_past.Tie as tie
 
@@ -38,7 +38,7 @@ loop-again c =
     ored-turn l c.before.before.loop.k c.before.before.loop.all (omega arith) c.before.before.loop.invariant
 
 returns : tie.Need-returns invariant-loop decreases-loop
-unfolding orPast
+unfolding or_past
 returns c =
     let l = c.before.before.args.t1.n in
     let long : length l ≡ 8 = search rules in

@@ -1,7 +1,7 @@
 -- `desk_sums::record_fits` meets its contract: the tray is not sound, or the two sums are tested.
 -- Assumes nothing.
 use borrow.Author.Tests.{not-true, not-false}
-use Rattle.desk_sums.specs.Sums.{recordFits}
+use Rattle.desk_sums.specs.Sums.{record_fits}
 use borrow.Author.Rules.{rules}
 use Rattle.desk_sums.proofs.record_fits.Statement.{statement}
 use Rattle.desk_sums.proofs.record_fits.Tie as tie
@@ -10,7 +10,7 @@ tray-sound-requires : tie.Need-tray-sound-requires
 tray-sound-requires c κs = search rules
 
 returns : tie.Need-returns
-unfolding recordFits
+unfolding record_fits
 returns c = rw (← c.before.tray-sound.ensures, not-true c.before.tray-sound.result c.if1.true)
 
 slot-cell-requires : tie.Need-slot-cell-requires
@@ -32,7 +32,7 @@ sum-fits-requires-2 : tie.Need-sum-fits-requires-2
 sum-fits-requires-2 c κs = search rules
 
 returns-2 : tie.Need-returns-2
-unfolding recordFits
+unfolding record_fits
 returns-2 c =
     let at-if = c.before.before.before.before.before.before.before.before.before.before.before in
     rw (

@@ -1,6 +1,6 @@
 -- `desk_sums::rest` meets its contract.
 -- Assumes nothing.
-use Rattle.desk_sums.specs.Sums.{addClock, rest_of}
+use Rattle.desk_sums.specs.Sums.{add_clock, rest_of}
 use Rattle.desk_sums.specs.Laws.{byte-is}
 use borrow.Author.Rules.{rules}
 use Rattle.desk_sums.proofs.rest.Statement.{statement}
@@ -16,7 +16,7 @@ cast-t9 : tie.Need-overflow-cast-t9
 cast-t9 c = search rules
 
 returns : tie.Need-returns
-unfolding rest_of addClock
+unfolding rest_of add_clock
 returns c =
     rw (
       c.before.before.before.over.ensures,

@@ -1,7 +1,7 @@
 -- `desk_sums::sum_fits` meets its contract.
 -- Assumes nothing.
 use borrow.Author.Rules.{rules}
-use Rattle.desk_sums.specs.Sums.{sumFits}
+use Rattle.desk_sums.specs.Sums.{sum_fits}
 use Rattle.desk_sums.proofs.sum_fits.Statement.{statement}
 use Rattle.desk_sums.proofs.sum_fits.Tie as tie
 
@@ -12,7 +12,7 @@ or-past-requires : tie.Need-or-past-requires
 or-past-requires c κs = search rules
 
 returns : tie.Need-returns
-unfolding sumFits
+unfolding sum_fits
 returns c = rw (c.or-past.ensures, c.before.or8.ensures)
 
 pub sum-fits-spec : {M : Type 1} → statement M

@@ -6,7 +6,7 @@ use mathlib.Core.Bool.{false, ◌||◌}
 use lib.Dec.{ltb}
 use borrow.Author.Tests.{le-leb, lt-leb, lt-ltb, le-ltb}
 use Rattle.theory_refusals.specs.Refusals.{first_of}
-use Rattle.frame.specs.Frame.{kinds, faultLines}
+use Rattle.frame.specs.Frame.{kinds, fault_lines}
 use Rattle.frame.proofs.fault.Statement.{statement}
 use Rattle.frame.proofs.fault.Tie as tie
 
@@ -21,22 +21,22 @@ outside-requires : tie.Need-outside-requires
 outside-requires c κs = search rules
 
 returns : tie.Need-returns
-unfolding faultLines first_of
+unfolding fault_lines first_of
 returns c = rw (sym c.before.outside.ensures ∙ c.if1.true)
 
 outside-requires-2 : tie.Need-outside-requires-2
 outside-requires-2 c κs = search rules
 
 returns-2 : tie.Need-returns-2
-unfolding faultLines first_of
+unfolding fault_lines first_of
 returns-2 c = rw (kind-known c.before.before, sym c.before.outside2.ensures ∙ c.if2.true)
 
 returns-3 : tie.Need-returns-3
-unfolding faultLines first_of
+unfolding fault_lines first_of
 returns-3 c = rw (kind-known c.before.before.before, count-known c.before, le-leb _ _ c.if3.true)
 
 returns-4 : tie.Need-returns-4
-unfolding faultLines first_of
+unfolding fault_lines first_of
 returns-4 c = rw (
   kind-known c.before.before.before.before,
   count-known c.before.before,
@@ -45,7 +45,7 @@ returns-4 c = rw (
 )
 
 returns-5 : tie.Need-returns-5
-unfolding faultLines first_of
+unfolding fault_lines first_of
 returns-5 c = rw (
   kind-known c.before.before.before.before,
   count-known c.before.before,

@@ -7,7 +7,7 @@ use mathlib.Core.List.{[], ◌∷◌}
 use Prim.Native.Nat.{ℕ, ◌+◌, ◌*◌, ◌<◌}
 use lib.ListN.{get_or, take, drop}
 use Rattle.spelling.specs.Bytes.{numeral, numbers}
-use Rattle.frame.specs.Frame.{messageOf}
+use Rattle.frame.specs.Frame.{message_of}
 use Rattle.frame.specs.Laws.{framed-byte}
 use Rattle.frame_read.proofs.message_in.Statement.{statement}
 use Rattle.frame_read.proofs.message_in.Tie as tie
@@ -52,7 +52,7 @@ number-requires-9 : tie.Need-number-requires-9
 number-requires-9 c κs = search rules
 
 returns : tie.Need-returns
-unfolding numbers messageOf
+unfolding numbers message_of
 returns c =
     let s = c.before.before.before.before.before.before.before.before.before.before.before.before.before.before.args.s.now in
     let u = 7 + 4 * c.before.before.before.before.before.before.before.before.before.before.before.before.before.before.args.c in

@@ -6,7 +6,7 @@ use mathlib.Core.Path.{◌≡◌, sym, ap, ◌∙◌}
 use mathlib.Core.List.{List}
 use Prim.Native.Nat.{ℕ, ◌+◌, ◌*◌, ◌≤◌}
 use lib.ListN.{length, take}
-use Rattle.frame.specs.Frame.{carried, lengthIn, messageIn, read_code}
+use Rattle.frame.specs.Frame.{carried, length_in, message_in, read_code}
 use Rattle.frame.specs.Laws.{Accepted, accepted, kind-in, desks-in, read-refused, read-accepted}
 use Rattle.frame_read.proofs.read.Statement.{statement}
 use Rattle.frame_read.proofs.read.Tie as tie
@@ -23,11 +23,11 @@ told c = accepted (bytes c) (clear c)
 long : (c : tie.Else1) → 7 ≤ length (bytes c)
 long c = omega (arith, (told c).whole.there, (told c).whole.headed)
 
-ends : (c : tie.After-carries) → 7 + 4 * c.carries.result ≡ 2 + lengthIn (bytes c.before.before.before)
+ends : (c : tie.After-carries) → 7 + 4 * c.carries.result ≡ 2 + length_in (bytes c.before.before.before)
 ends c =
     let at = c.before.before.before in
     let s = bytes at in
-    let carries : c.carries.result ≡ carried (messageIn s).kind (messageIn s).desks = rw (
+    let carries : c.carries.result ≡ carried (message_in s).kind (message_in s).desks = rw (
       kind-in s (long at),
       desks-in s (long at),
     ) c.carries.ensures in
@@ -63,7 +63,7 @@ returns-2 c =
     let e = ends c.before in
     sym
     (read-accepted s (clear c.before.before.before.before)
-    ∙ (λ i. record { code = 0; message = (ap (λ (u : ℕ). messageIn (take u s)) (sym e) ∙ sym c.message-in.ensures) i; used = sym e i }))
+    ∙ (λ i. record { code = 0; message = (ap (λ (u : ℕ). message_in (take u s)) (sym e) ∙ sym c.message-in.ensures) i; used = sym e i }))
 
 pub read_spec : {M : Type 1} → statement M
 read_spec =

@@ -9,7 +9,7 @@ use lib.ListN.{length}
 use borrow.Author.Tests.{eq-eqb, ne_eqb}
 use Rattle.theory_refusals.specs.Refusals.{first_of, first_some, first_more}
 use Rattle.spelling.specs.Bytes.{numbers}
-use Rattle.frame.specs.Frame.{lengthIn, messageIn, faultsIn, faultIn, wrongLength, length_of, read_code}
+use Rattle.frame.specs.Frame.{length_in, message_in, faults_in, fault_in, wrong_length, length_of, read_code}
 use Rattle.frame.specs.Laws.{Whole, faultless, called, fault-numbers, version-in, kind-in, desks-in, desk-in, cell_in}
 use Rattle.frame.specs.Laws.{too_short, cut_off, no-head, other-version, whole_code}
 use Rattle.frame_read.proofs.read_code.Statement.{statement}
@@ -19,7 +19,7 @@ use Rattle.frame_read.proofs.read_code.Tie as tie
 abbrev bytes : tie.After-fault → List ℕ
 bytes c = c.before.before.before.before.before.before.before.before.before.before.before.before.args.s.now
 
-length-told : (c : tie.After-two-at) → lengthIn c.before.before.before.args.s.now ≡ c.two_at.result
+length-told : (c : tie.After-two-at) → length_in c.before.before.before.args.s.now ≡ c.two_at.result
 unfolding numbers
 length-told c = sym c.two_at.ensures
 
@@ -37,19 +37,19 @@ whole c =
 long : (c : tie.After-fault) → 7 ≤ length (bytes c)
 long c = let w = whole c.before.before.before.before.before in omega (arith, w.there, w.headed)
 
-fault-told : (c : tie.After-fault) → c.fault.result ≡ faultIn (messageIn (bytes c))
+fault-told : (c : tie.After-fault) → c.fault.result ≡ fault_in (message_in (bytes c))
 fault-told c =
     rw (kind-in (bytes c) (long c), desks-in (bytes c) (long c), desk-in (bytes c) (long c), cell_in (bytes c) (long c)) c.fault.ensures
 
 -- what is left to refuse: a length that is not what kind and desk count call for, and what they call for
-code-left : (c : tie.After-carries) → read_code (bytes c.before.before) ≡ first_of ((36, wrongLength (bytes c.before.before)) ∷ [])
+code-left : (c : tie.After-carries) → read_code (bytes c.before.before) ≡ first_of ((36, wrong_length (bytes c.before.before)) ∷ [])
 code-left c =
-    let m = messageIn (bytes c.before.before) in
+    let m = message_in (bytes c.before.before) in
     whole_code _ (whole c.before.before.before.before.before.before.before)
-    ∙ first_more (faultsIn m) _ (fault-numbers m) (sym (fault-told c.before.before) ∙ c.before.if5.false)
+    ∙ first_more (faults_in m) _ (fault-numbers m) (sym (fault-told c.before.before) ∙ c.before.if5.false)
 
 length-called : (c : tie.After-carries)
-    → (length_of (messageIn (bytes c.before.before)).kind (messageIn (bytes
+    → (length_of (message_in (bytes c.before.before)).kind (message_in (bytes
     c.before.before)).desks ≡ 5 + 4 * c.carries.result) × (c.carries.result ≤ 9)
 length-called c =
     let s = bytes c.before.before in
@@ -105,7 +105,7 @@ returns-5 : tie.Need-returns-5
 returns-5 c =
     let told = fault-told c.before in
     told ∙ sym (whole_code _ (whole c.before.before.before.before.before.before)
-    ∙ first_some (faultsIn (messageIn (bytes c.before))) _ (λ e. c.if5.true (told ∙ e)))
+    ∙ first_some (faults_in (message_in (bytes c.before))) _ (λ e. c.if5.true (told ∙ e)))
 
 carries-requires : tie.Need-carries-requires
 carries-requires c κs = search rules

@@ -8,11 +8,11 @@ use mathlib.Core.Bool.{Bool, ◌&&◌}
 use mathlib.Core.List.{◌∷◌}
 use Prim.Native.Nat.{ℕ}
 use lib.Dec.{eqb}
-use Rattle.theory_lists.specs.Each.{mapAt}
+use Rattle.theory_lists.specs.Each.{map_at}
 use Rattle.theory_lists.specs.Test.{every}
 use Rattle.desk.specs.declared.Message.{Message}
 use Rattle.spelling.specs.Bytes.{spell, put-none}
-use Rattle.frame.specs.Frame.{carried, carriedOrZero, faultIn}
+use Rattle.frame.specs.Frame.{carried, carried_or_zero, fault_in}
 use Rattle.frame_write.specs.Given.{given}
 use Rattle.frame_write.proofs.Writes.{none-carried, faulted, unclean, roomless, written}
 use Rattle.frame_write.proofs.bare.Statement.{statement}
@@ -30,12 +30,12 @@ none desks = refl
 abbrev start : tie.After-zero-from → tie.Start
 start c = c.before.before.before.before
 
-sound : (c : tie.After-zero-from) → faultIn (message (start c)) ≡ 0
+sound : (c : tie.After-zero-from) → fault_in (message (start c)) ≡ 0
 sound c = let at = c.before in sym at.before.fault.ensures ∙ at.if1.false
 
 -- what the code tests is whether the word and the clock's numbers are 0
 tested : (c : tie.After-zero-from)
-    → every (mapAt (carriedOrZero 0) ((start c).args.word ∷ (start c).args.clock.n)) ≡ (eqb (start c).args.word 0 && c.zero-from.result)
+    → every (map_at (carried_or_zero 0) ((start c).args.word ∷ (start c).args.clock.n)) ≡ (eqb (start c).args.word 0 && c.zero-from.result)
 tested c =
     let a = (start c).args in
     none-carried a.word a.clock.n ∙ ap (λ (b : Bool). eqb a.word 0 && b) (sym c.zero-from.ensures)

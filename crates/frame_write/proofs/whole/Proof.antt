@@ -6,7 +6,7 @@ use native.Mathlib.Omega.{arith}
 use mathlib.Core.Path.{◌≡◌, refl, sym, ◌∙◌}
 use Prim.Native.Nat.{ℕ, ◌+◌}
 use Rattle.desk.specs.declared.Message.{Message}
-use Rattle.frame.specs.Frame.{carried, faultIn}
+use Rattle.frame.specs.Frame.{carried, fault_in}
 use Rattle.frame.specs.Laws.{faultless}
 use Rattle.frame_write.specs.Given.{given}
 use Rattle.frame_write.proofs.Writes.{past-count, size, faulted, unclean, roomless, written}
@@ -28,7 +28,7 @@ counted s = all s.args.kind s.args.desks s.requires
 abbrev start : tie.After-zero-from → tie.Start
 start c = c.before.before.before.before
 
-sound : (c : tie.After-zero-from) → faultIn (message (start c)) ≡ 0
+sound : (c : tie.After-zero-from) → fault_in (message (start c)) ≡ 0
 sound c = let at = c.before in sym at.before.fault.ensures ∙ at.if1.false
 
 fault-requires : tie.Need-fault-requires

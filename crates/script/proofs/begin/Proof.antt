@@ -12,7 +12,7 @@ use Rattle.theory_lists.specs.Test.{both_left, both_right}
 use Rattle.text.specs.OneLine.{length-line}
 use Rattle.text.specs.Walk.{cells-refused}
 use Rattle.table.specs.declared.SetUp.{SetUp}
-use Rattle.script.specs.Rules.{setUp, event}
+use Rattle.script.specs.Rules.{set_up, event}
 use Rattle.script.proofs.begin.Statement.{statement}
 use Rattle.script.proofs.begin.Tie as tie
 
@@ -42,10 +42,10 @@ same-length-2 : tie.Need-same-length-2
 same-length-2 c = search rules
 
 returns-2 : tie.Need-returns-2
-unfolding setUp
+unfolding set_up
 returns-2 c =
     let a = c.before.before.before.before.before.before.before.before.args in
-    let refused = cells-refused setUp event a.s.now a.at a.desks a.cells c.before.before.before.before.before.if1.false in
+    let refused = cells-refused set_up event a.s.now a.at a.desks a.cells c.before.before.before.before.before.if1.false in
     let made = c.before.before.before.before.made in
     let code : Fits w32 made.result.code = search rules in
     let put = c.before.before.put-single.ensures in (

@@ -8,7 +8,7 @@ use Prim.Native.Nat.{ℕ, ◌≤◌, ◌<◌}
 use lib.ListN.{length, drop}
 use mir.Syntax.{w32}
 use mir.Val.{Fits}
-use Rattle.text.specs.Line.{lines_of, badLine}
+use Rattle.text.specs.Line.{lines_of, bad_line}
 use Rattle.text.specs.Reading.{line_at}
 use Rattle.text.specs.Script.{sized, started}
 use Rattle.text.specs.OneLine.{length-line, length-bad-line}
@@ -18,26 +18,26 @@ use Rattle.desk.specs.declared.Plan.{Plan}
 use Rattle.table.specs.declared.Table.{Table}
 use Rattle.table.specs.declared.SetUp.{SetUp}
 use Rattle.table.specs.Fresh.{set-up-room, set-up-sound}
-use Rattle.table.specs.SetUp.{setUpRule}
-use Rattle.script.specs.Rules.{setUp, event}
+use Rattle.table.specs.SetUp.{set_up_rule}
+use Rattle.script.specs.Rules.{set_up, event}
 use Rattle.script.proofs.second.Statement.{statement}
 use Rattle.script.proofs.second.Tie as tie
 
 -- what the line at the place says of the answer, and then what setting up says of it
 module _ (s : List ℕ) (at desks cells : ℕ) (some-cell : 0 < cells) (few : cells ≤ 32) (l : Line) (q : l ≡ line_at s at) where
   abbrev whole : List ℕ
-  whole = sized setUp event desks cells (lines_of (drop at s))
+  whole = sized set_up event desks cells (lines_of (drop at s))
 
-  bad : (l.count ≡ cells → ⊥) → whole ≡ badLine 2
-  bad ne = second-bad setUp event s at desks cells some-cell few (λ e. ne (ap (λ (x : Line). x.count) q ∙ e))
+  bad : (l.count ≡ cells → ⊥) → whole ≡ bad_line 2
+  bad ne = second-bad set_up event s at desks cells some-cell few (λ e. ne (ap (λ (x : Line). x.count) q ∙ e))
 
-  made-is : (m : SetUp) → l.count ≡ cells → m ≡ setUpRule (record { desks = desks; cells = cells; keepers = l.n })
-      → whole ≡ started setUp event (m.code, m.table) (lines_of (drop l.next s))
-  unfolding setUp
+  made-is : (m : SetUp) → l.count ≡ cells → m ≡ set_up_rule (record { desks = desks; cells = cells; keepers = l.n })
+      → whole ≡ started set_up event (m.code, m.table) (lines_of (drop l.next s))
+  unfolding set_up
   made-is m e made =
-      second-read setUp event s at desks cells some-cell few (sym (ap (λ (x : Line). x.count) q) ∙ e)
-      ∙ ap₂ (λ (x : ℕ × Table) (y : ℕ). started setUp event x (lines_of (drop y s)))
-      (ap (λ (x : Line). setUp desks cells x.n) (sym q) ∙ ap (λ (x : SetUp). (x.code, x.table)) (sym made))
+      second-read set_up event s at desks cells some-cell few (sym (ap (λ (x : Line). x.count) q) ∙ e)
+      ∙ ap₂ (λ (x : ℕ × Table) (y : ℕ). started set_up event x (lines_of (drop y s)))
+      (ap (λ (x : Line). set_up desks cells x.n) (sym q) ∙ ap (λ (x : SetUp). (x.code, x.table)) (sym made))
       (ap (λ (x : Line). x.next) (sym q))
 
 read-line-requires : tie.Need-read-line-requires
@@ -86,7 +86,7 @@ returns-2 c =
     let put = c.before.before.put-single.ensures in (
       rw (
         made-is a.s.now a.at a.desks a.cells cells.0 cells.1 l.result l.ensures m.result same m.ensures,
-        started-refused setUp event a.s.now l.result.next m.result.code m.result.table refused,
+        started-refused set_up event a.s.now l.result.next m.result.code m.result.table refused,
       )
           put,
       omega (arith, put.after, length-line m.result.code [] (omega arith, tt)),
@@ -114,7 +114,7 @@ returns-3 c =
     let code = c.before.before.before.before.if2.false in
     rw (
       made-is a.s.now a.at a.desks a.cells cells.0 cells.1 l.result l.ensures m.result same m.ensures,
-      started-run setUp event a.s.now l.result.next m.result.code m.result.table code,
+      started-run set_up event a.s.now l.result.next m.result.code m.result.table code,
     )
     c.before.before.run.ensures
 

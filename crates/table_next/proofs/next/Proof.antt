@@ -1,7 +1,7 @@
 -- `table_next::next` meets its contract: the table is lent to the step.
 -- Assumes nothing.
 use mathlib.Core.Path.{refl}
-use Rattle.table.specs.Rules.{eventRule}
+use Rattle.table.specs.Rules.{event_rule}
 use Rattle.table_next.proofs.Fns as fns
 use Rattle.table_next.proofs.next.Code as code
 use Rattle.table_next.specs.contracts.next.Key as key
@@ -26,5 +26,5 @@ next-spec 𝓤 𝓛 𝓜 𝓡 =
     let t = a.0 in let e = a.1.0 in
     does (typed table t is-a.0 ⨟ address ((tt, tt) ⨟
     lends table steps.step step-met 3 t (e, tt) refl refl is-a.0 (is-a.1.0, tt) need (refl ⨟ refl ⨟ λ is-r is-after.
-    let is-o = struct_is fns.outcome-form (eventRule t e) (is-r, (is-after, tt)) in
-    finish _ _ (typed table (eventRule t e).after is-after ⨟ typed fns.outcome (eventRule t e) is-o ⨟ _ ⨟ refl ⨟ (refl, is-o, tt))))))
+    let is-o = struct_is fns.outcome-form (event_rule t e) (is-r, (is-after, tt)) in
+    finish _ _ (typed table (event_rule t e).after is-after ⨟ typed fns.outcome (event_rule t e) is-o ⨟ _ ⨟ refl ⨟ (refl, is-o, tt))))))

@@ -1,10 +1,10 @@
 -- `table_set_up::clear` meets its contract.
 -- Assumes nothing.
 use mathlib.Core.Path.{refl}
-use Rattle.desk.specs.Start.{noTray}
+use Rattle.desk.specs.Start.{no_tray}
 use Rattle.desk_start.proofs.Starts as starts
 use Rattle.desk_start.proofs.no_tray.Met as no-tray-thm
-use Rattle.table.specs.SetUp.{noTable}
+use Rattle.table.specs.SetUp.{no_table}
 use Rattle.table_parts.proofs.Parts as parts
 use Rattle.table_parts.proofs.put_tray.Met as put-tray-thm
 use Rattle.walks.proofs.Callees.{lends, values}
@@ -18,7 +18,7 @@ use Rattle.table_set_up.proofs.clear_cells.Met as clear-cells-thm
 use Rattle.table_set_up.proofs.clear_seats.Met as clear-seats-thm
 
 pub clear_spec : {M : Type 1} → statement M
-unfolding code.routine noTable
+unfolding code.routine no_table
 clear_spec 𝓤 𝓛 𝓜 𝓡 =
     calling 𝓛 𝓜 𝓡 code.env parts.table sets.clear key.name code.function (code.unfolded 𝓤 𝓛.H 𝓜 𝓡) refl
     (λ κ q b o γ t a is-a is need.
@@ -29,4 +29,4 @@ clear_spec 𝓤 𝓛 𝓜 𝓡 =
     (tt, tt) ⨟ _ ⨟ clear-cells-met ⨟ tt ⨟ (tt, tt) ⨟ refl ⨟ refl ⨟ λ _. (tt, tt)
     ⨟ _ ⨟ clear-seats-met ⨟ tt ⨟ (tt, tt) ⨟ refl ⨟ refl ⨟ λ _. (tt, tt)
     ⨟ _ ⨟ no-tray-met ⨟ tt ⨟ (tt, tt) ⨟ refl ⨟ refl ⨟ λ is_none.
-    _ ⨟ put-tray-met ⨟ (noTray, tt) ⨟ ((is_none, tt), tt) ⨟ refl ⨟ refl ⨟ λ _. (tt, tt) ⨟ _ ⨟ refl ⨟ (refl, refl, refl, tt))
+    _ ⨟ put-tray-met ⨟ (no_tray, tt) ⨟ ((is_none, tt), tt) ⨟ refl ⨟ refl ⨟ λ _. (tt, tt) ⨟ _ ⨟ refl ⨟ (refl, refl, refl, tt))

@@ -12,13 +12,13 @@ use lib.WfN.{lt-wf_rel}
 use mir.Syntax.{w64}
 use mir.Val.{vint, vptr}
 use Rattle.desk.specs.declared.Cell.{Cell}
-use Rattle.desk.specs.Desk.{noCell, pastCell}
+use Rattle.desk.specs.Desk.{no_cell, past_cell}
 use Rattle.table.specs.declared.Table.{Table}
-use Rattle.table.specs.SetUpInPlace.{withCells}
+use Rattle.table.specs.SetUpInPlace.{with_cells}
 use Rattle.table_parts.proofs.Parts as parts
 use Rattle.table_parts.proofs.clear_cell.Met as clear-cell-thm
 use Rattle.table_parts.proofs.copy_first.Met as copy-first-thm
-use Rattle.theory_lists.specs.Replaced.{up_to, upTo-step, upTo-passed, upTo-same}
+use Rattle.theory_lists.specs.Replaced.{up_to, up_to-step, up_to-passed, up_to-same}
 use Rattle.walks.proofs.Callees.{lends}
 use Rattle.walks.proofs.Lent.{calling}
 use Rattle.walks.proofs.Parts.{at, with_at}
@@ -37,18 +37,18 @@ left x = 256 - x.0
 
 -- the first i entries are cleared
 abbrev cleared : Table → ℕ → Table
-cleared t i = withCells t (up_to (λ _. noCell) i t.cells)
+cleared t i = with_cells t (up_to (λ _. no_cell) i t.cells)
 
-first : (t : Table) → with_at parts.cells_in t 0 noCell ≡ cleared t 1
+first : (t : Table) → with_at parts.cells_in t 0 no_cell ≡ cleared t 1
 unfolding up_to
 first t = refl
 
 next : (t : Table) → length t.cells ≡ 256 → (i : ℕ) → 1 ≤ i
     → with_at parts.cells_in (cleared t i) i (at parts.cells_in (cleared t i) 0) ≡ cleared t (i + 1)
 next t long i past =
-    ap (λ (x : Cell). withCells t (set (up_to (λ _. noCell) i t.cells) i x))
-    (upTo-passed (λ _. noCell) i t.cells 0 pastCell (omega arith) (omega (arith, long)))
-    ∙ ap (withCells t) (upTo-step (λ _. noCell) i t.cells)
+    ap (λ (x : Cell). with_cells t (set (up_to (λ _. no_cell) i t.cells) i x))
+    (up_to-passed (λ _. no_cell) i t.cells 0 past_cell (omega arith) (omega (arith, long)))
+    ∙ ap (with_cells t) (up_to-step (λ _. no_cell) i t.cells)
 
 pub clear-cells-spec : {M : Type 1} → statement M
 unfolding code.routine
@@ -68,4 +68,4 @@ clear-cells-spec 𝓤 𝓛 𝓜 𝓡 =
     tt ⨟ record { fits = omega (arith, below) } ⨟ (tt, record { fits = omega (arith, below) })
     ⨟ ((i + 1, omega arith, omega (arith, below)), omega (arith, below), next t long i x.1, (refl, (refl, tt)), tt)))
     ⨟ (λ no. let end : x.0 ≡ 256 = omega (arith, nltb→le x.0 256 no, x.2) in
-    ((tt, tt) ⨟ _ ⨟ refl ⨟ (refl, refl, ap (cleared t) end ∙ ap (withCells t) (upTo-same noCell 256 t.cells long), tt)))))))
+    ((tt, tt) ⨟ _ ⨟ refl ⨟ (refl, refl, ap (cleared t) end ∙ ap (with_cells t) (up_to-same no_cell 256 t.cells long), tt)))))))

@@ -1,7 +1,7 @@
 -- `table_set_up::clear_seats` meets its contract.
 -- Assumes nothing.
 use mathlib.Core.Path.{refl}
-use Rattle.desk.specs.Desk.{noSeat}
+use Rattle.desk.specs.Desk.{no_seat}
 use Rattle.desk_parts.proofs.ClearAll.{clears-all}
 use Rattle.table_parts.proofs.Parts as parts
 use Rattle.table_parts.proofs.clear_seat.Met as clear-seat-thm
@@ -13,5 +13,5 @@ use Rattle.table_set_up.proofs.clear_seats.Statement.{statement}
 pub clear-seats-spec : {M : Type 1} → statement M
 unfolding code.routine
 clear-seats-spec 𝓤 𝓛 𝓜 𝓡 =
-    clears-all parts.seats-in noSeat tt (λ t l. refl) (λ t l m. refl) (λ t. refl) 𝓛 𝓜 𝓡 code.env key.name clear-seat.name
+    clears-all parts.seats-in no_seat tt (λ t l. refl) (λ t l m. refl) (λ t. refl) 𝓛 𝓜 𝓡 code.env key.name clear-seat.name
     (code.unfolded 𝓤 𝓛.H 𝓜 𝓡) clear-seat.routine code.calls-table-parts::clear-seat (clear-seat-thm.met 𝓤 𝓛 𝓜 𝓡)

@@ -10,7 +10,7 @@ use lib.Dec.{ltb→lt, nltb→le, lit<}
 use lib.WfN.{lt-wf_rel}
 use mir.Syntax.{w64}
 use mir.Val.{vint, vptr}
-use Rattle.desk.specs.Desk.{placeAt, keeperOf}
+use Rattle.desk.specs.Desk.{place_at, keeper_of}
 use Rattle.desk_acts.proofs.Acts as acts
 use Rattle.desk_acts.proofs.at.Met as at-thm
 use Rattle.desk_acts.proofs.cells_of.Met as cells-of-thm
@@ -53,9 +53,9 @@ keep_spec 𝓤 𝓛 𝓜 𝓡 =
     ⨟ (0, zero-le) ⨟ sym (kept-none t) ⨟ (refl, (refl, (refl, tt)))
     ⨟ (λ x. let c : ℕ = x.0 in
     (tt ⨟ (tt, tt) ⨟ apart ((λ yes. let below : x.0 < n = ltb→lt x.0 n yes in let there = need c below in
-    let small : x.0 < 32 = there.0 in let d : ℕ = keeperOf t.tray c in
+    let small : x.0 < 32 = there.0 in let d : ℕ = keeper_of t.tray c in
     ((tt, tt) ⨟ _ ⨟ place-met ⨟ (c, tt) ⨟ (((refl, omega (arith, small)), tt), small) ⨟ refl ⨟ refl ⨟ λ is-p.
-    _ ⨟ keeper-of-met ⨟ (placeAt t.tray c, tt) ⨟ ((is-p, tt), tt) ⨟ refl ⨟ refl ⨟ λ is-d. (tt, tt)
+    _ ⨟ keeper-of-met ⨟ (place_at t.tray c, tt) ⨟ ((is-p, tt), tt) ⨟ refl ⨟ refl ⨟ λ is-d. (tt, tt)
     ⨟ _ ⨟ at-met ⨟ (d, (c, tt)) ⨟ ((is-d, ((refl, omega (arith, small)), tt)), (there.1, small)) ⨟ refl ⨟ refl ⨟ λ is-i.
     _ ⨟ keep-cell-met ⨟ (home t.tray c, tt) ⨟ ((is-i, tt), omega (arith, there.1, small)) ⨟ refl ⨟ refl ⨟ λ _.
     tt ⨟ record { fits = omega (arith, small) } ⨟ (tt, record { fits = omega (arith, small) })

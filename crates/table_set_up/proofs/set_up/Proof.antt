@@ -6,7 +6,7 @@ use lib.Dec.{lit<}
 use lib.ListN.{length}
 use mir.Syntax.{w32}
 use mir.Val.{vint}
-use Rattle.desk.specs.Start.{freshTray, setUpRefusal}
+use Rattle.desk.specs.Start.{fresh_tray, set_up_refusal}
 use Rattle.desk_start.proofs.Starts as starts
 use Rattle.desk_start.proofs.refusal.Met as refusal-thm
 use Rattle.desk_start.proofs.tray.Met as tray-thm
@@ -37,7 +37,7 @@ set-up-spec 𝓤 𝓛 𝓜 𝓡 =
     let clear-met = lends 𝓛 𝓜 𝓡 code.env parts.table sets.clear code.calls-table-set-up::clear (clear-thm.met 𝓤 𝓛 𝓜 𝓡) κ q b o γ in
     let keep-met = lends 𝓛 𝓜 𝓡 code.env parts.table sets.keep code.calls-table-set-up::keep (keep-thm.met 𝓤 𝓛 𝓜 𝓡) κ q b o γ in
     let put-tray-met = lends 𝓛 𝓜 𝓡 code.env parts.table parts.put-tray code.calls-table-parts::put-tray (put-tray-thm.met 𝓤 𝓛 𝓜 𝓡) κ q b o γ in
-    let p = a.0 in let is-p = is-a.0 in let code = setUpRefusal p in
+    let p = a.0 in let is-p = is-a.0 in let code = set_up_refusal p in
     let all : length p.keepers ≡ 32 = long (number w32) 32 p.keepers ((starts.keepers-in).get-is p is-p) in
     _ ⨟ refusal-met ⨟ (p, tt) ⨟ ((is-p, tt), tt) ⨟ refl ⨟ refl ⨟ λ is_code. (tt, tt)
     ⨟ _ ⨟ clear-met ⨟ tt ⨟ (tt, tt) ⨟ refl ⨟ refl ⨟ λ _. tt ⨟ tt ⨟ (tt, tt)
@@ -48,6 +48,6 @@ set-up-spec 𝓤 𝓛 𝓜 𝓡 =
     ⨟ (λ no. let none = is_zero code no in let same = sym (set-up-done p all none) in
     let told = ap (λ (s : SetUp). s.code) same in
     ((tt, tt) ⨟ _ ⨟ tray-met ⨟ (p, tt) ⨟ ((is-p, tt), none) ⨟ refl ⨟ refl ⨟ λ is_x.
-    _ ⨟ put-tray-met ⨟ (freshTray p, tt) ⨟ ((is_x, tt), tt) ⨟ refl ⨟ refl ⨟ λ _. (tt, tt)
+    _ ⨟ put-tray-met ⨟ (fresh_tray p, tt) ⨟ ((is_x, tt), tt) ⨟ refl ⨟ refl ⨟ λ _. (tt, tt)
     ⨟ _ ⨟ keep-met ⨟ tt ⨟ (tt, housed p all none) ⨟ refl ⨟ refl ⨟ λ _. tt ⨟ (tt, record { fits = lit< tt })
     ⨟ _ ⨟ refl ⨟ (ap (vint w32) told, (refl, subst (λ (n : ℕ). n < 2 ^ 32) told (lit< tt)), ap (λ (s : SetUp). s.table) same, tt)))))

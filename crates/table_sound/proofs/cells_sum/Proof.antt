@@ -8,7 +8,7 @@ use native.Mathlib.Omega.{arith}
 use lib.Dec.{ltb→lt, lit<}
 use mir.Syntax.{w64}
 use mir.Val.{vint, vptr}
-use Rattle.desk.specs.Desk.{cell_at, placeAt}
+use Rattle.desk.specs.Desk.{cell_at, place_at}
 use Rattle.desk_sums.proofs.no_sum.Met as no-sum-thm
 use Rattle.desk_sums.proofs.no_sum.Symbol as no-sum
 use Rattle.desk_sums.proofs.used_by.Met as used-by-thm
@@ -16,8 +16,8 @@ use Rattle.desk_sums.proofs.used_by.Symbol as used-by
 use Rattle.desk_sums.proofs.Sums as adds
 use Rattle.desk_sums.proofs.Sums.{Turn, Later, falls, start, count-is, count_fits, next, nearer, ended, laid}
 use Rattle.desk_sums.specs.declared.Sum.{Sum}
-use Rattle.desk_sums.specs.Rows.{usedSum, cellsSum, cells-none, cells-next}
-use Rattle.desk_sums.specs.Sums.{usedBy}
+use Rattle.desk_sums.specs.Rows.{used_sum, cells_sum, cells-none, cells-next}
+use Rattle.desk_sums.specs.Sums.{used_by}
 use Rattle.table_parts.proofs.Parts as parts
 use Rattle.table_parts.proofs.counts.Met as counts-thm
 use Rattle.table_parts.proofs.counts.Symbol as counts
@@ -48,18 +48,18 @@ cells-sum-spec 𝓤 𝓛 𝓜 𝓡 =
     let used-met = lends sums.used-sum used.name used.routine code.calls-table-sound::used-sum (used-thm.met 𝓤 𝓛 𝓜 𝓡) κ q b o γ in
     let past-met = lends sums.past-sum past.name past.routine code.calls-table-sound::past-sum (past-thm.met 𝓤 𝓛 𝓜 𝓡) κ q b o γ in
     let typed = has-type (W 𝓛 𝓜 𝓡 code.env) adds.sum in
-    let f : ℕ → Sum = λ d. cellsSum t.tray (cell_at t.cells) d in
+    let f : ℕ → Sum = λ d. cells_sum t.tray (cell_at t.cells) d in
     let first = cells-none t.tray (cell_at t.cells) in
     _ ⨟ no-sum-met ⨟ tt ⨟ (tt, tt) ⨟ refl ⨟ refl ⨟ λ is-s.
     tt ⨟ (tt, record { fits = lit< tt }) ⨟ Turn f 0 8 ⨟ Later f 0 8 ⨟ falls f 0 8
     ⨟ (λ x. (t, none ∷ some (vptr b o) ∷ some (val adds.sum (f x.c)) ∷ some (vint w64 x.c) ∷ []))
     ⨟ start f 0 8 (omega arith) first is-s ⨟ refl ⨟ (refl, (laid first, (refl, tt)))
-    ⨟ (λ x. let d : ℕ = x.c in let n : ℕ = usedBy t.tray.counts x.c in let few : n ≤ 32 = used-few t.tray.counts x.c need in
+    ⨟ (λ x. let d : ℕ = x.c in let n : ℕ = used_by t.tray.counts x.c in let few : n ≤ 32 = used-few t.tray.counts x.c need in
     (tt ⨟ tt ⨟ (tt, tt) ⨟ apart ((λ yes. let h : x.c < 8 = ltb→lt x.c 8 yes in let is-d = count-is x h (omega arith) in
     ((tt, tt) ⨟ _ ⨟ counts-met ⨟ tt ⨟ (tt, tt) ⨟ refl ⨟ refl ⨟ λ is-k.
     _ ⨟ used-by-met ⨟ (t.tray.counts, (d, tt)) ⨟ ((is-k, (is-d, tt)), tt) ⨟ refl ⨟ refl ⨟ λ is-n.
     (tt, tt) ⨟ _ ⨟ used-met ⨟ (d, (n, (f d, tt))) ⨟ ((is-d, (is-n, (x.is, tt))), (h, few)) ⨟ refl ⨟ refl ⨟ λ is-u.
-    (tt, tt) ⨟ _ ⨟ past-met ⨟ (d, (n, (usedSum (placeAt t.tray) (λ c. cell_at t.cells (d * 32 + c)) d (f d) n, tt)))
+    (tt, tt) ⨟ _ ⨟ past-met ⨟ (d, (n, (used_sum (place_at t.tray) (λ c. cell_at t.cells (d * 32 + c)) d (f d) n, tt)))
     ⨟ ((is-d, (is-n, (is-u, tt))), (h, few)) ⨟ refl ⨟ refl ⨟ λ is-v.
     let more = cells-next t.tray (cell_at t.cells) x.c in
     tt ⨟ count_fits x h (omega arith) ⨟ (tt, count_fits x h (omega arith))

@@ -18,7 +18,7 @@ use Rattle.desk_sums.proofs.rest.Symbol as rest
 use Rattle.desk_sums.proofs.Sums as adds
 use Rattle.desk_sums.proofs.Sums.{Turn, Later, falls, start, count-is, count_fits, next, nearer, ended, laid}
 use Rattle.desk_sums.specs.declared.Sum.{Sum}
-use Rattle.desk_sums.specs.Rows.{pastSum, past-none, past_next}
+use Rattle.desk_sums.specs.Rows.{past_sum, past-none, past_next}
 use Rattle.table_parts.proofs.Parts as parts
 use Rattle.table_parts.proofs.cell_at.Met as cell-at-thm
 use Rattle.table_parts.proofs.cell_at.Symbol as cell-at
@@ -44,7 +44,7 @@ past-sum-spec 𝓤 𝓛 𝓜 𝓡 =
     let typed = has-type (W 𝓛 𝓜 𝓡 code.env) adds.sum in
     let d : ℕ = a.0 in let n : ℕ = a.1.0 in let s : Sum = a.1.1.0 in let is-d = is-a.0 in let is-s = is-a.1.1.0 in
     let cell : ℕ → Cell = λ c. cell_at t.cells (d * 32 + c) in
-    let f : ℕ → Sum = λ c. pastSum cell n s c in
+    let f : ℕ → Sum = λ c. past_sum cell n s c in
     let first : f n ≡ s = past-none cell s n in
     typed s is-s ⨟ (tt, record { fits = is-a.1.0.1 }) ⨟ Turn f n 32 ⨟ Later f n 32 ⨟ falls f n 32
     ⨟ (λ x. (t, none ∷ some (vptr b o) ∷ some (vint w64 d) ∷ none ∷ none ∷ some (val adds.sum (f x.c)) ∷ some (vint w64 x.c) ∷ []))

@@ -6,16 +6,16 @@ use mir.Val.{vbool}
 use Rattle.desk.proofs.sound.tray_sound.Met as sound-thm
 use Rattle.desk.proofs.sound.tray_sound.Symbol as sound
 use Rattle.desk.specs.Desk.{cell_at}
-use Rattle.desk.specs.Sound.{traySound}
+use Rattle.desk.specs.Sound.{tray_sound}
 use Rattle.desk.specs.SoundLaws.{tray-rule}
 use Rattle.desk_sums.proofs.sum_fits_in.Met as fits-in-thm
 use Rattle.desk_sums.proofs.sum_fits_in.Symbol as fits_in
 use Rattle.desk_sums.proofs.Sums as adds
 use Rattle.desk_sums.specs.declared.Sum.{Sum}
-use Rattle.desk_sums.specs.Rows.{cellsSum, seatsSum}
-use Rattle.desk_sums.specs.Sums.{sumFits}
-use Rattle.table.specs.Sound.{tableSound}
-use Rattle.table.specs.Table.{seatOf}
+use Rattle.desk_sums.specs.Rows.{cells_sum, seats_sum}
+use Rattle.desk_sums.specs.Sums.{sum_fits}
+use Rattle.table.specs.Sound.{table_sound}
+use Rattle.table.specs.Table.{seat_of}
 use Rattle.table_parts.proofs.Parts as parts
 use Rattle.table_parts.proofs.counts.Met as counts-thm
 use Rattle.table_parts.proofs.counts.Symbol as counts
@@ -48,12 +48,12 @@ sound-spec 𝓤 𝓛 𝓜 𝓡 =
     let cells-met = lends sums.cells-sum cells.name cells.routine code.calls-table-sound::cells-sum (cells-thm.met 𝓤 𝓛 𝓜 𝓡) κ q b o γ in
     let counts-met = lends parts.counts counts.name counts.routine code.calls-table-parts::counts (counts-thm.met 𝓤 𝓛 𝓜 𝓡) κ q b o γ in
     let fits-met = values adds.sum-fits-in fits_in.name fits_in.routine code.calls-desk-sums::sum-fits-in (fits-in-thm.met 𝓤 𝓛 𝓜 𝓡) κ q b o γ in
-    let all-seats : Sum = seatsSum t.tray (seatOf t) 8 in
-    let all-cells : Sum = cellsSum t.tray (cell_at t.cells) 8 in
-    let ok : Bool = traySound t.tray in
-    let seats-fit : Bool = sumFits all-seats t.tray.counts.desks in
-    let cells_fit : Bool = sumFits all-cells t.tray.counts.desks in
-    let whole : tableSound t ≡ (ok && cells_fit && seats-fit) = table_fits t (parts.sized t is) in
+    let all-seats : Sum = seats_sum t.tray (seat_of t) 8 in
+    let all-cells : Sum = cells_sum t.tray (cell_at t.cells) 8 in
+    let ok : Bool = tray_sound t.tray in
+    let seats-fit : Bool = sum_fits all-seats t.tray.counts.desks in
+    let cells_fit : Bool = sum_fits all-cells t.tray.counts.desks in
+    let whole : table_sound t ≡ (ok && cells_fit && seats-fit) = table_fits t (parts.sized t is) in
     (tt, tt) ⨟ _ ⨟ tray-met ⨟ tt ⨟ (tt, tt) ⨟ refl ⨟ refl ⨟ λ is-t.
     _ ⨟ sound-met ⨟ (t.tray, tt) ⨟ ((is-t, tt), tt) ⨟ refl ⨟ refl ⨟ λ _. tt ⨟ (tt, tt)
     ⨟ apart ((λ bad. ((tt, tt) ⨟ _ ⨟ refl ⨟ (ap vbool (sym (whole ∙ rw (is_false ok bad))), refl, refl, tt)))

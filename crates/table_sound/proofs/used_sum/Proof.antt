@@ -9,7 +9,7 @@ use lib.Dec.{ltb→lt, lit<}
 use mir.Syntax.{w64}
 use mir.Val.{vint, vptr}
 use Rattle.desk.specs.declared.Cell.{Cell}
-use Rattle.desk.specs.Desk.{cell_at, placeAt, keptBy}
+use Rattle.desk.specs.Desk.{cell_at, place_at, kept_by}
 use Rattle.desk_acts.proofs.Acts as acts
 use Rattle.desk_acts.proofs.at.Met as at-thm
 use Rattle.desk_acts.proofs.at.Symbol as at
@@ -20,7 +20,7 @@ use Rattle.desk_sums.proofs.keeps.Symbol as keeps
 use Rattle.desk_sums.proofs.Sums as adds
 use Rattle.desk_sums.proofs.Sums.{Turn, Later, falls, start, count-is, count_fits, next, nearer, ended, laid}
 use Rattle.desk_sums.specs.declared.Sum.{Sum}
-use Rattle.desk_sums.specs.Rows.{usedSum, used-none, used-next}
+use Rattle.desk_sums.specs.Rows.{used_sum, used-none, used-next}
 use Rattle.table_parts.proofs.Parts as parts
 use Rattle.table_parts.proofs.cell_at.Met as cell-at-thm
 use Rattle.table_parts.proofs.cell_at.Symbol as cell-at
@@ -51,8 +51,8 @@ used-sum-spec 𝓤 𝓛 𝓜 𝓡 =
     let d : ℕ = a.0 in let n : ℕ = a.1.0 in let s : Sum = a.1.1.0 in let is-d = is-a.0 in let is-s = is-a.1.1.0 in
     let few : n ≤ 32 = need.1 in
     let cell : ℕ → Cell = λ c. cell_at t.cells (d * 32 + c) in
-    let f : ℕ → Sum = λ c. usedSum (placeAt t.tray) cell d s c in
-    let first : f 0 ≡ s = used-none (placeAt t.tray) cell d s in
+    let f : ℕ → Sum = λ c. used_sum (place_at t.tray) cell d s c in
+    let first : f 0 ≡ s = used-none (place_at t.tray) cell d s in
     typed s is-s ⨟ tt ⨟ (tt, record { fits = lit< tt }) ⨟ Turn f 0 n ⨟ Later f 0 n ⨟ falls f 0 n
     ⨟ (λ x. (
       t,
@@ -63,11 +63,11 @@ used-sum-spec 𝓤 𝓛 𝓜 𝓡 =
     ⨟ (λ x. let c : ℕ = x.c in
     (tt ⨟ (tt, tt) ⨟ apart ((λ yes. let h : x.c < n = ltb→lt x.c n yes in let is_c = count-is x h few in
     ((tt, tt) ⨟ _ ⨟ place-met ⨟ (c, tt) ⨟ ((is_c, tt), omega (arith, h, few)) ⨟ refl ⨟ refl ⨟ λ is-p.
-    _ ⨟ keeps-met ⨟ (placeAt t.tray c, (d, tt)) ⨟ ((is-p, (is-d, tt)), tt) ⨟ refl ⨟ refl ⨟ λ is-k.
+    _ ⨟ keeps-met ⨟ (place_at t.tray c, (d, tt)) ⨟ ((is-p, (is-d, tt)), tt) ⨟ refl ⨟ refl ⨟ λ is-k.
     (tt, tt) ⨟ _ ⨟ at-met ⨟ (d, (c, tt)) ⨟ ((is-d, (is_c, tt)), (need.0, omega (arith, h, few))) ⨟ refl ⨟ refl ⨟ λ is-i.
     _ ⨟ cell-met ⨟ (d * 32 + c, tt) ⨟ ((is-i, tt), omega (arith, need.0, h, few)) ⨟ refl ⨟ refl ⨟ λ is_x.
-    _ ⨟ add-met ⨟ (f c, (keptBy (placeAt t.tray c) d, (cell c, tt))) ⨟ ((x.is, (is-k, (is_x, tt))), tt) ⨟ refl ⨟ refl ⨟ λ is-u.
-    let more = used-next (placeAt t.tray) cell d s x.c in
+    _ ⨟ add-met ⨟ (f c, (kept_by (place_at t.tray c) d, (cell c, tt))) ⨟ ((x.is, (is-k, (is_x, tt))), tt) ⨟ refl ⨟ refl ⨟ λ is-u.
+    let more = used-next (place_at t.tray) cell d s x.c in
     tt ⨟ count_fits x h few ⨟ (tt, count_fits x h few)
     ⨟ (next x h more is-u, nearer x h more is-u, refl, (refl, (refl, (refl, (laid more, (refl, tt))))), tt)))
     ⨟ (λ over. (typed (f c) x.is ⨟ _ ⨟ refl ⨟ ended x t over))))))

@@ -16,14 +16,14 @@ use Rattle.desk_acts.proofs.brought_to.Met as brought-to-thm
 use Rattle.desk_acts.proofs.brings.Symbol as brings
 use Rattle.desk_acts.proofs.home.Symbol as home
 use Rattle.desk_acts.proofs.brought_to.Symbol as brought-to
-use Rattle.table.specs.InPlace.{without, bringIn, bringCount}
-use Rattle.table.specs.Changes.{lostCount}
+use Rattle.table.specs.InPlace.{without, bring_in, bring_count}
+use Rattle.table.specs.Changes.{lost_count}
 use Rattle.table_parts.proofs.put_cell.Met as put-cell-thm
 use Rattle.desk_acts.proofs.home.Met as home-thm
 use Rattle.table_parts.proofs.put_seat.Symbol as put-seat
 use Rattle.desk_acts.proofs.sent.Met as sent-thm
-use Rattle.table.specs.Table.{seatOf}
-use Rattle.desk.specs.Parts.{homeSeat, broughtCell}
+use Rattle.table.specs.Table.{seat_of}
+use Rattle.desk.specs.Parts.{home_seat, brought_cell}
 use Rattle.table_step.proofs.Steps as steps
 use Rattle.table_step.specs.contracts.bring.Key as key
 use Rattle.table_parts.proofs.put_seat.Met as put-seat-thm
@@ -40,7 +40,7 @@ use Rattle.table_step.proofs.lose.Symbol as lose
 use Rattle.table_step.proofs.lose.Met as lose-thm
 
 pub bring-spec : {M : Type 1} → statement M
-unfolding code.routine bringIn bringCount
+unfolding code.routine bring_in bring_count
 bring-spec 𝓤 𝓛 𝓜 𝓡 =
     let does = lent 𝓛 𝓜 𝓡 code.env parts.table in
     let knows = valued 𝓛 𝓜 𝓡 code.env parts.table in
@@ -58,7 +58,7 @@ bring-spec 𝓤 𝓛 𝓜 𝓡 =
     let brings-met = knows acts.brings brings.name brings.routine code.calls-desk-acts::brings (brings-thm.met 𝓤 𝓛 𝓜 𝓡) κ q b o γ in
     let lose-met = does steps.lose lose.name lose.routine code.calls-table-step::lose (lose-thm.met 𝓤 𝓛 𝓜 𝓡) κ q b o γ in
     let d = a.0 in let is-d = is-a.0 in
-    let s = seatOf t d in let c = s.slot.cell in let i = d * 32 + c in let stamp = s.slot.clock in
+    let s = seat_of t d in let c = s.slot.cell in let i = d * 32 + c in let stamp = s.slot.clock in
     (tt, tt) ⨟ _ ⨟ seat-of-met ⨟ (d, tt) ⨟ ((is-d, tt), need.0) ⨟ refl ⨟ refl ⨟ λ is-s.
     _ ⨟ asked-cell-met ⨟ (s, tt) ⨟ ((is-s, tt), tt) ⨟ refl ⨟ refl ⨟ λ is_c.
     _ ⨟ at-met ⨟ (d, (c, tt)) ⨟ ((is-d, (is_c, tt)), (need.0, need.1)) ⨟ refl ⨟ refl ⨟ λ is-i. (tt, tt)
@@ -66,9 +66,9 @@ bring-spec 𝓤 𝓛 𝓜 𝓡 =
     ⨟ _ ⨟ sent-met ⨟ (s, tt) ⨟ ((is-s, tt), tt) ⨟ refl ⨟ refl ⨟ λ is-l.
     _ ⨟ lose-met ⨟ (d, (stamp, tt)) ⨟ ((is-d, (is-l, tt)), (need.0, need.2)) ⨟ refl ⨟ refl ⨟ λ is-n. (tt, tt)
     ⨟ _ ⨟ brought-to-met ⨟ (s, tt) ⨟ ((is-s, tt), tt) ⨟ refl ⨟ refl ⨟ λ is_x.
-    _ ⨟ put-cell-met ⨟ (i, (broughtCell s.served s.slot.word stamp, tt)) ⨟ ((is-i, (is_x, tt)), omega (arith, need.0, need.1)) ⨟ refl ⨟ refl
+    _ ⨟ put-cell-met ⨟ (i, (brought_cell s.served s.slot.word stamp, tt)) ⨟ ((is-i, (is_x, tt)), omega (arith, need.0, need.1)) ⨟ refl ⨟ refl
     ⨟ λ _. (tt, tt) ⨟ _ ⨟ sent-met ⨟ (s, tt) ⨟ ((is-s, tt), tt) ⨟ refl ⨟ refl ⨟ λ is_m.
     _ ⨟ home-met ⨟ (s, (stamp, tt)) ⨟ ((is-s, (is_m, tt)), tt) ⨟ refl ⨟ refl ⨟ λ is-h.
-    _ ⨟ put-seat-met ⨟ (d, (homeSeat s stamp, tt)) ⨟ ((is-d, (is-h, tt)), need.0) ⨟ refl ⨟ refl ⨟ λ _.
-    _ ⨟ brings-met ⨟ (s, (lostCount (without t d) d stamp, tt)) ⨟ ((is-s, (is-n, tt)), tt) ⨟ refl ⨟ refl ⨟ λ is-r.
+    _ ⨟ put-seat-met ⨟ (d, (home_seat s stamp, tt)) ⨟ ((is-d, (is-h, tt)), need.0) ⨟ refl ⨟ refl ⨟ λ _.
+    _ ⨟ brings-met ⨟ (s, (lost_count (without t d) d stamp, tt)) ⨟ ((is-s, (is-n, tt)), tt) ⨟ refl ⨟ refl ⨟ λ is-r.
     _ ⨟ refl ⨟ (refl, is-r, refl, tt))

@@ -2,12 +2,12 @@
 -- Assumes nothing.
 use mathlib.Core.Path.{refl, sym, ap, subst}
 use lib.Dec.{eqb, lit<}
-use Rattle.desk.specs.Rules.{refusedReply}
+use Rattle.desk.specs.Rules.{refused_reply}
 use Rattle.desk_acts.proofs.Acts as acts
 use Rattle.desk_acts.proofs.refused.Met as refused-thm
 use Rattle.desk_acts.proofs.refused.Symbol as refused
 use Rattle.table.specs.declared.Outcome.{Outcome}
-use Rattle.table.specs.Sound.{tableSound}
+use Rattle.table.specs.Sound.{table_sound}
 use Rattle.table.specs.Turn.{not_sound}
 use Rattle.table_parts.proofs.Parts as parts
 use Rattle.table_sound.proofs.Sums as sums
@@ -38,10 +38,10 @@ event-spec 𝓤 𝓛 𝓜 𝓡 =
     let e = a.0 in let is-e = is-a.0 in
     (tt, tt) ⨟ _ ⨟ sound-met ⨟ tt ⨟ (tt, tt) ⨟ refl ⨟ refl ⨟ λ _. tt ⨟ (tt, tt)
     ⨟ apart ((λ bad.
-    let same = sym (not_sound t e (is_false (tableSound t) bad)) in
+    let same = sym (not_sound t e (is_false (table_sound t) bad)) in
     let reply = ap (λ (o : Outcome). o.reply) same in
     (_ ⨟ refused-met ⨟ (9, tt) ⨟ (((refl, lit< tt), tt), tt) ⨟ tt ⨟ refl ⨟ refl ⨟ λ is-r.
     _ ⨟ refl ⨟ (ap (val acts.reply) reply, subst (IsOf acts.reply) reply is-r, ap (λ (o : Outcome). o.after) same, tt)))
     ⨟ (λ good.
-    ((tt, tt) ⨟ _ ⨟ step-met ⨟ (e, tt) ⨟ ((is-e, tt), un_not (tableSound t) good) ⨟ refl ⨟ refl ⨟ λ is-r.
+    ((tt, tt) ⨟ _ ⨟ step-met ⨟ (e, tt) ⨟ ((is-e, tt), un_not (table_sound t) good) ⨟ refl ⨟ refl ⨟ λ is-r.
     _ ⨟ refl ⨟ (refl, is-r, refl, tt)))))

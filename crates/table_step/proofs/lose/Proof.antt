@@ -12,7 +12,7 @@ use mir.Syntax.{w32, w64}
 use lib.Dec.{ltb→lt, nltb→le, lit<}
 use Rattle.table_parts.proofs.counts.Met as counts-thm
 use Rattle.table_step.proofs.lose.Code as code
-use Rattle.desk.specs.Parts.{losesIf}
+use Rattle.desk.specs.Parts.{loses_if}
 use Rattle.desk_acts.proofs.is_lost.Symbol as is_lost
 use Rattle.desk_sums.proofs.keeps.Met as keeps-thm
 use Rattle.table_parts.proofs.clear_cell.Met as clear-cell-thm
@@ -22,12 +22,12 @@ use Rattle.desk_acts.proofs.cells_of.Symbol as cells_of
 use Rattle.table_step.specs.contracts.lose.Key as key
 use Rattle.table_step.proofs.lose.Statement.{statement}
 use Rattle.walks.proofs.Lent.{calling}
-use Rattle.desk.specs.Desk.{cell_at, placeAt, keptBy}
+use Rattle.desk.specs.Desk.{cell_at, place_at, kept_by}
 use Rattle.desk_acts.proofs.at.Symbol as at
 use Rattle.table_parts.proofs.place.Met as place-thm
 use Rattle.walks.proofs.Walk.{◌⨟◌, apart, joined}
 use Rattle.desk_acts.proofs.cells_of.Met as cells-of-thm
-use Rattle.table.specs.Changes.{lostTo, lossTo, lost-none, loss-none, lost-one, lost-stays, loss-one, loss-stays, loss-small}
+use Rattle.table.specs.Changes.{lost_to, loss_to, lost-none, loss-none, lost-one, lost-stays, loss-one, loss-stays, loss-small}
 use Rattle.walks.proofs.Branch.{is_true, is_false}
 use Rattle.desk_acts.proofs.Acts as acts
 use Rattle.table_step.proofs.Steps as steps
@@ -48,7 +48,7 @@ abbrev left : (n : ℕ) → Count n → ℕ
 left n x = n - x.0
 
 pub lose-spec : {M : Type 1} → statement M
-unfolding code.routine lostTo
+unfolding code.routine lost_to
 lose-spec 𝓤 𝓛 𝓜 𝓡 =
     let does = lent 𝓛 𝓜 𝓡 code.env parts.table in
     let knows = valued 𝓛 𝓜 𝓡 code.env parts.table in
@@ -63,29 +63,29 @@ lose-spec 𝓤 𝓛 𝓜 𝓡 =
     let is-lost-met = knows acts.is_lost is_lost.name is_lost.routine code.calls-desk-acts::is-lost (is-lost-thm.met 𝓤 𝓛 𝓜 𝓡) κ q b o γ in
     let keeps-met = knows acts.keeps keeps.name keeps.routine code.calls-desk-sums::keeps (keeps-thm.met 𝓤 𝓛 𝓜 𝓡) κ q b o γ in
     let d : ℕ = a.0 in let l = a.1.0 in let is-d = is-a.0 in let is-l = is-a.1.0 in let n : ℕ = t.tray.counts.cells in
-    let fits : (c : ℕ) → c ≤ n → lossTo t d l c < 2 ^ 32 = λ c h. omega (arith, loss-small t d l c, h, need.1) in
+    let fits : (c : ℕ) → c ≤ n → loss_to t d l c < 2 ^ 32 = λ c h. omega (arith, loss-small t d l c, h, need.1) in
     (tt, tt) ⨟ _ ⨟ counts-met ⨟ tt ⨟ (tt, tt) ⨟ refl ⨟ refl ⨟ λ is-both.
     _ ⨟ cells-of-met ⨟ (t.tray.counts, tt) ⨟ ((is-both, tt), tt) ⨟ refl ⨟ refl ⨟ λ is-n.
     tt ⨟ (tt, record { fits = lit< tt }) ⨟ tt ⨟ (tt, record { fits = lit< tt })
     ⨟ Count n ⨟ (λ x y. left n x < left n y) ⨟ InvImage.wf (left n) lt-wf_rel.wf
     ⨟ (λ x. (
-      lostTo t d l x.0,
+      lost_to t d l x.0,
       none ∷ some (vptr b o) ∷ some (vint w64 d) ∷ some (val acts.clock l) ∷ some (vint w64 n)
-          ∷ some (vint w32 (lossTo t d l x.0)) ∷ some (vint w64 x.0) ∷ [],
+          ∷ some (vint w32 (loss_to t d l x.0)) ∷ some (vint w64 x.0) ∷ [],
     ))
     ⨟ (0, zero-le) ⨟ sym (lost-none t d l) ⨟ (refl, (refl, (refl, (refl, (ap (λ (m : ℕ). some (vint w32 m)) (sym (loss-none t d l)), (refl, tt))))))
     ⨟ (λ x. let c : ℕ = x.0 in let i : ℕ = d * 32 + x.0 in
     (tt ⨟ (tt, tt) ⨟ apart ((λ yes. let below : x.0 < n = ltb→lt x.0 n yes in let small : x.0 < 32 = omega (arith, below, need.1) in
-    let y = cell_at (lostTo t d l c).cells i in let test = losesIf (keptBy (placeAt t.tray c) d) l y in
+    let y = cell_at (lost_to t d l c).cells i in let test = loses_if (kept_by (place_at t.tray c) d) l y in
     ((tt, tt) ⨟ _ ⨟ place-met ⨟ (c, tt) ⨟ (((refl, omega (arith, small)), tt), small) ⨟ refl ⨟ refl ⨟ λ is-p.
-    _ ⨟ keeps-met ⨟ (placeAt t.tray c, (d, tt)) ⨟ ((is-p, (is-d, tt)), tt) ⨟ refl ⨟ refl ⨟ λ is-k. (tt, tt)
+    _ ⨟ keeps-met ⨟ (place_at t.tray c, (d, tt)) ⨟ ((is-p, (is-d, tt)), tt) ⨟ refl ⨟ refl ⨟ λ is-k. (tt, tt)
     ⨟ _ ⨟ at-met ⨟ (d, (c, tt)) ⨟ ((is-d, ((refl, omega (arith, small)), tt)), (need.0, small)) ⨟ refl ⨟ refl ⨟ λ is-i.
     _ ⨟ cell-at-met ⨟ (i, tt) ⨟ ((is-i, tt), omega (arith, need.0, small)) ⨟ refl ⨟ refl ⨟ λ is_y.
-    _ ⨟ is-lost-met ⨟ (keptBy (placeAt t.tray c) d, (l, (y, tt))) ⨟ ((is-k, (is-l, (is_y, tt))), tt) ⨟ refl ⨟ refl ⨟ λ is_b.
+    _ ⨟ is-lost-met ⨟ (kept_by (place_at t.tray c) d, (l, (y, tt))) ⨟ ((is-k, (is-l, (is_y, tt))), tt) ⨟ refl ⨟ refl ⨟ λ is_b.
     joined (Unit {0} ⨟ (λ _. (
-      lostTo t d l (c + 1),
+      lost_to t d l (c + 1),
       none ∷ some (vptr b o) ∷ some (vint w64 d) ∷ some (val acts.clock l) ∷ some (vint w64 n)
-          ∷ some (vint w32 (lossTo t d l (c + 1))) ∷ some (vint w64 c) ∷ [],
+          ∷ some (vint w32 (loss_to t d l (c + 1))) ∷ some (vint w64 c) ∷ [],
     ))
     ⨟ (λ lost. let e = is_true test lost in
     ((tt, tt) ⨟ _ ⨟ at-met ⨟ (d, (c, tt)) ⨟ ((is-d, ((refl, omega (arith, small)), tt)), (need.0, small)) ⨟ refl ⨟ refl ⨟ λ is-j.
@@ -98,4 +98,4 @@ lose-spec 𝓤 𝓛 𝓜 𝓡 =
     ⨟ ((c + 1, omega (arith, below)), omega (arith, below), refl, (refl, (refl, (refl, (refl, (refl, (refl, tt)))))), tt))))))
     ⨟ (λ no. let end : x.0 ≡ n = omega (arith, nltb→le x.0 n no, x.1) in
     ((tt, record { fits = fits x.0 x.1 }) ⨟ _ ⨟ refl
-    ⨟ (ap (λ (m : ℕ). vint w32 (lossTo t d l m)) end, (refl, fits n (omega arith)), ap (lostTo t d l) end, tt)))))))
+    ⨟ (ap (λ (m : ℕ). vint w32 (loss_to t d l m)) end, (refl, fits n (omega arith)), ap (lost_to t d l) end, tt)))))))

@@ -14,8 +14,8 @@ use Rattle.desk_acts.proofs.unplaced.Symbol as unplaced
 use Rattle.table_step.proofs.refusal.Code as code
 use Rattle.desk_acts.proofs.unplaced.Met as unplaced-thm
 use Rattle.table_step.proofs.refusal.Statement.{statement}
-use Rattle.table.specs.Table.{seatOf}
-use Rattle.table.specs.Turn.{unplacedOf, unplaced-some, unplaced-none, placed}
+use Rattle.table.specs.Table.{seat_of}
+use Rattle.table.specs.Turn.{unplaced_of, unplaced-some, unplaced-none, placed}
 use Rattle.table_parts.proofs.Parts as parts
 use Rattle.walks.proofs.Walk.{◌⨟◌, apart}
 use Rattle.table_parts.proofs.counts.Symbol as counts
@@ -48,7 +48,7 @@ refusal-spec 𝓤 𝓛 𝓜 𝓡 =
     let desk-byte-met = knows acts.desk-byte desk-byte.name desk-byte.routine code.calls-desk-acts::desk-byte (desk-byte-thm.met 𝓤 𝓛 𝓜 𝓡) κ q b o γ in
     let desk-of-met = knows acts.desk-of desk-of.name desk-of.routine code.calls-desk-acts::desk-of (desk-of-thm.met 𝓤 𝓛 𝓜 𝓡) κ q b o γ in
     let seat-refusal-met = knows acts.seat-refusal seat-refusal.name seat-refusal.routine code.calls-desk-refusals::seat-refusal (seat-refusal-thm.met 𝓤 𝓛 𝓜 𝓡) κ q b o γ in
-    let e = a.0 in let is-e = is-a.0 in let code = unplacedOf t e in let tray = sound-tray t need in
+    let e = a.0 in let is-e = is-a.0 in let code = unplaced_of t e in let tray = sound-tray t need in
     (tt, tt) ⨟ _ ⨟ counts-met ⨟ tt ⨟ (tt, tt) ⨟ refl ⨟ refl ⨟ λ is-n.
     _ ⨟ unplaced-met ⨟ (t.tray.counts, (e, tt)) ⨟ ((is-n, (is-e, tt)), tt) ⨟ refl ⨟ refl ⨟ λ is_c. tt ⨟ tt ⨟ (tt, tt)
     ⨟ apart ((λ yes. let same = unplaced-some t e need yes in
@@ -58,5 +58,5 @@ refusal-spec 𝓤 𝓛 𝓜 𝓡 =
     _ ⨟ desk-byte-met ⨟ (e, tt) ⨟ ((is-e, tt), there) ⨟ refl ⨟ refl ⨟ λ is_b. (tt, tt)
     ⨟ _ ⨟ desk-of-met ⨟ (e, tt) ⨟ ((is-e, tt), tt) ⨟ refl ⨟ refl ⨟ λ is-d.
     _ ⨟ seat-of-met ⨟ (e.desk, tt) ⨟ ((is-d, tt), there) ⨟ refl ⨟ refl ⨟ λ is-s.
-    _ ⨟ seat-refusal-met ⨟ (t.tray, (e.desk, (seatOf t e.desk, (e, tt)))) ⨟ ((is-t, (is_b, (is-s, (is-e, tt)))), (there, tray.cells-most)) ⨟ refl ⨟ refl
+    _ ⨟ seat-refusal-met ⨟ (t.tray, (e.desk, (seat_of t e.desk, (e, tt)))) ⨟ ((is-t, (is_b, (is-s, (is-e, tt)))), (there, tray.cells-most)) ⨟ refl ⨟ refl
     ⨟ λ is-r. _ ⨟ refl ⨟ (ap (vint w32) same, (refl, subst (λ (n : ℕ). n < 2 ^ 32) same is-r.1), refl, tt)))))

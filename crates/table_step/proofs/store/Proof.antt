@@ -17,14 +17,14 @@ use Rattle.table_step.proofs.store.Statement.{statement}
 use Rattle.desk_acts.proofs.Acts as acts
 use Rattle.desk_acts.proofs.at.Met as at-thm
 use Rattle.table_step.proofs.Steps as steps
-use Rattle.desk.specs.Desk.{heldCell}
-use Rattle.table.specs.InPlace.{storeIn}
+use Rattle.desk.specs.Desk.{held_cell}
+use Rattle.table.specs.InPlace.{store_in}
 use Rattle.table_step.specs.contracts.store.Key as key
 use Rattle.table_parts.proofs.Parts as parts
 use Rattle.walks.proofs.Walk.{◌⨟◌}
 
 pub store_spec : {M : Type 1} → statement M
-unfolding code.routine storeIn
+unfolding code.routine store_in
 store_spec 𝓤 𝓛 𝓜 𝓡 =
     let does = lent 𝓛 𝓜 𝓡 code.env parts.table in
     let knows = valued 𝓛 𝓜 𝓡 code.env parts.table in
@@ -39,5 +39,5 @@ store_spec 𝓤 𝓛 𝓜 𝓡 =
     (tt, tt) ⨟ _ ⨟ put-seat-met ⨟ (d, (s, tt)) ⨟ ((is-d, (is-s, tt)), need.0) ⨟ refl ⨟ refl ⨟ λ _. (tt, tt)
     ⨟ _ ⨟ at-met ⨟ (d, (c, tt)) ⨟ ((is-d, (is_c, tt)), need) ⨟ refl ⨟ refl ⨟ λ is-i.
     _ ⨟ storing-met ⨟ (s, (w, tt)) ⨟ ((is-s, (is-w, tt)), tt) ⨟ refl ⨟ refl ⨟ λ is_x.
-    _ ⨟ put-cell-met ⨟ (d * 32 + c, (heldCell w s.clock, tt)) ⨟ ((is-i, (is_x, tt)), omega (arith, need.0, need.1)) ⨟ refl ⨟ refl ⨟ λ _. (tt, tt)
+    _ ⨟ put-cell-met ⨟ (d * 32 + c, (held_cell w s.clock, tt)) ⨟ ((is-i, (is_x, tt)), omega (arith, need.0, need.1)) ⨟ refl ⨟ refl ⨟ λ _. (tt, tt)
     ⨟ _ ⨟ refl ⨟ (refl, refl, refl, tt))

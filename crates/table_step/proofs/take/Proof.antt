@@ -9,7 +9,7 @@ use lib.Dec.{eqb, lit<}
 use mir.Syntax.{w32, w64}
 use mir.Val.{vint, vptr}
 use Rattle.desk_acts.proofs.answering.Symbol as answering
-use Rattle.desk.specs.Desk.{cell_at, placeAt}
+use Rattle.desk.specs.Desk.{cell_at, place_at}
 use Rattle.table_parts.proofs.cell_at.Met as cell-at-thm
 use Rattle.walks.proofs.Lent.{calling}
 use Rattle.table_parts.proofs.Parts as parts
@@ -26,13 +26,13 @@ use Rattle.desk_acts.proofs.answering.Met as answering-thm
 use Rattle.table_step.proofs.take_write.Symbol as take-write
 use Rattle.desk_acts.proofs.keeper_of.Met as keeper-of-thm
 use Rattle.walks.proofs.Plain.{val}
-use Rattle.table.specs.Changes.{lostCount}
+use Rattle.table.specs.Changes.{lost_count}
 use Rattle.table_parts.proofs.put_seat.Symbol as put-seat
 use Rattle.table_step.proofs.Steps as steps
 use Rattle.table_step.proofs.take_write.Met as take-write-thm
 use Rattle.table_step.proofs.take.Code as code
-use Rattle.table.specs.InPlace.{takeWriteIn, servedIn, takeIn, takeCount}
-use Rattle.desk.specs.Parts.{answeredSeat}
+use Rattle.table.specs.InPlace.{take_write_in, served_in, take_in, take_count}
+use Rattle.desk.specs.Parts.{answered_seat}
 use Rattle.walks.proofs.Callees.{lent, valued}
 use Rattle.table_parts.proofs.put_seat.Met as put-seat-thm
 use Rattle.desk_acts.proofs.asks_write.Met as asks-write-thm
@@ -46,10 +46,10 @@ use Rattle.desk_acts.proofs.at.Symbol as at
 use Rattle.desk_acts.proofs.Acts as acts
 use Rattle.table_parts.proofs.cell_at.Symbol as cell-at
 use Rattle.desk_acts.proofs.dropped.Met as dropped-thm
-use Rattle.table.specs.Table.{seatOf, keeperFor}
+use Rattle.table.specs.Table.{seat_of, keeper_for}
 
 pub take_spec : {M : Type 1} → statement M
-unfolding code.routine takeIn servedIn takeCount
+unfolding code.routine take_in served_in take_count
 take_spec 𝓤 𝓛 𝓜 𝓡 =
     let does = lent 𝓛 𝓜 𝓡 code.env parts.table in
     let knows = valued 𝓛 𝓜 𝓡 code.env parts.table in
@@ -67,29 +67,29 @@ take_spec 𝓤 𝓛 𝓜 𝓡 =
     let dropped-met = knows acts.dropped dropped.name dropped.routine code.calls-desk-acts::dropped (dropped-thm.met 𝓤 𝓛 𝓜 𝓡) κ q b o γ in
     let take-write-met = does steps.take-write take-write.name take-write.routine code.calls-table-step::take-write (take-write-thm.met 𝓤 𝓛 𝓜 𝓡) κ q b o γ in
     let d : ℕ = a.0 in let is-d = is-a.0 in
-    let s = seatOf t d in let c : ℕ = s.slot.cell in let k : ℕ = keeperFor t d in let write = eqb s.slot.kind 2 in
-    let u = servedIn t d in let n : ℕ = takeCount t d in let x = cell_at u.cells (k * 32 + c) in
+    let s = seat_of t d in let c : ℕ = s.slot.cell in let k : ℕ = keeper_for t d in let write = eqb s.slot.kind 2 in
+    let u = served_in t d in let n : ℕ = take_count t d in let x = cell_at u.cells (k * 32 + c) in
     (tt, tt) ⨟ _ ⨟ seat-of-met ⨟ (d, tt) ⨟ ((is-d, tt), need.0) ⨟ refl ⨟ refl ⨟ λ is-s.
     _ ⨟ asked-cell-met ⨟ (s, tt) ⨟ ((is-s, tt), tt) ⨟ refl ⨟ refl ⨟ λ is_c. (tt, tt)
     ⨟ _ ⨟ place-met ⨟ (c, tt) ⨟ ((is_c, tt), need.1) ⨟ refl ⨟ refl ⨟ λ is-p.
-    _ ⨟ keeper-of-met ⨟ (placeAt t.tray c, tt) ⨟ ((is-p, tt), tt) ⨟ refl ⨟ refl ⨟ λ is-k. tt ⨟ (tt, record { fits = lit< tt })
+    _ ⨟ keeper-of-met ⨟ (place_at t.tray c, tt) ⨟ ((is-p, tt), tt) ⨟ refl ⨟ refl ⨟ λ is-k. tt ⨟ (tt, record { fits = lit< tt })
     ⨟ _ ⨟ asks-write-met ⨟ (s, tt) ⨟ ((is-s, tt), tt) ⨟ refl ⨟ refl ⨟ λ _.
     joined ((n < 2 ^ 32)
     ⨟ (λ _. (u, none ∷ some (vptr b o) ∷ some (vint w64 d) ∷ some (val seat s) ∷ some (vint w64 c) ∷ some (vint w64 k) ∷ some (vint w32 n) ∷ []))
     ⨟ (λ yes. ((tt, tt) ⨟ _ ⨟ take-write-met ⨟ (k, (c, (s, tt))) ⨟ ((is-k, (is_c, (is-s, tt))), (need.3, need.1, need.4)) ⨟ refl ⨟ refl ⨟ λ is-n. (
-      subst (λ (m : ℕ). m < 2 ^ 32) (sym (if_yes write (lostCount t k s.slot.clock) 0 yes)) is-n.1,
-      sym (if_yes write (takeWriteIn t k c s) t yes),
-      (refl, (refl, (refl, (refl, (refl, (ap (λ (m : ℕ). some (vint w32 m)) (sym (if_yes write (lostCount t k s.slot.clock) 0 yes)), tt)))))),
+      subst (λ (m : ℕ). m < 2 ^ 32) (sym (if_yes write (lost_count t k s.slot.clock) 0 yes)) is-n.1,
+      sym (if_yes write (take_write_in t k c s) t yes),
+      (refl, (refl, (refl, (refl, (refl, (ap (λ (m : ℕ). some (vint w32 m)) (sym (if_yes write (lost_count t k s.slot.clock) 0 yes)), tt)))))),
       tt,
     )))
     ⨟ (λ no. (
-      subst (λ (m : ℕ). m < 2 ^ 32) (sym (if_no write (lostCount t k s.slot.clock) 0 no)) (lit< tt),
-      sym (if_no write (takeWriteIn t k c s) t no),
-      (refl, (refl, (refl, (refl, (refl, (ap (λ (m : ℕ). some (vint w32 m)) (sym (if_no write (lostCount t k s.slot.clock) 0 no)), tt)))))),
+      subst (λ (m : ℕ). m < 2 ^ 32) (sym (if_no write (lost_count t k s.slot.clock) 0 no)) (lit< tt),
+      sym (if_no write (take_write_in t k c s) t no),
+      (refl, (refl, (refl, (refl, (refl, (ap (λ (m : ℕ). some (vint w32 m)) (sym (if_no write (lost_count t k s.slot.clock) 0 no)), tt)))))),
       tt,
     ))
     ⨟ (λ fits. ((tt, tt) ⨟ _ ⨟ at-met ⨟ (k, (c, tt)) ⨟ ((is-k, (is_c, tt)), (need.3, need.1)) ⨟ refl ⨟ refl ⨟ λ is-i.
     _ ⨟ cell-at-met ⨟ (k * 32 + c, tt) ⨟ ((is-i, tt), omega (arith, need.3, need.1)) ⨟ refl ⨟ refl ⨟ λ is_x. (tt, tt)
     ⨟ _ ⨟ answering-met ⨟ (s, (x, tt)) ⨟ ((is-s, (is_x, tt)), need.2) ⨟ refl ⨟ refl ⨟ λ is-v.
-    _ ⨟ put-seat-met ⨟ (d, (answeredSeat s x, tt)) ⨟ ((is-d, (is-v, tt)), need.0) ⨟ refl ⨟ refl ⨟ λ _.
+    _ ⨟ put-seat-met ⨟ (d, (answered_seat s x, tt)) ⨟ ((is-d, (is-v, tt)), need.0) ⨟ refl ⨟ refl ⨟ λ _.
     _ ⨟ dropped-met ⨟ (n, tt) ⨟ (((refl, fits), tt), tt) ⨟ refl ⨟ refl ⨟ λ is-r. _ ⨟ refl ⨟ (refl, is-r, refl, tt)))))

@@ -7,17 +7,17 @@ use Rattle.table_step.proofs.take_write.Statement.{statement}
 use Rattle.walks.proofs.Lent.{calling}
 use Rattle.table_parts.proofs.Parts as parts
 use Rattle.table_parts.proofs.seat_of.Symbol as seat-of
-use Rattle.table.specs.Changes.{lostTo}
+use Rattle.table.specs.Changes.{lost_to}
 use Rattle.desk_acts.proofs.took.Symbol as took
 use Rattle.table_step.proofs.take_write.Code as code
 use Rattle.desk_acts.proofs.word_of.Symbol as word_of
-use Rattle.desk.specs.Parts.{tookSeat}
+use Rattle.desk.specs.Parts.{took_seat}
 use Rattle.desk_acts.proofs.sent.Symbol as sent
 use Rattle.table_step.specs.contracts.take_write.Key as key
-use Rattle.table.specs.InPlace.{takeWriteIn}
+use Rattle.table.specs.InPlace.{take_write_in}
 use Rattle.table_step.proofs.store.Symbol as store
 use Rattle.desk_acts.proofs.sent.Met as sent-thm
-use Rattle.table.specs.Table.{seatOf}
+use Rattle.table.specs.Table.{seat_of}
 use Rattle.table_step.proofs.Steps as steps
 use Rattle.walks.proofs.Callees.{lent, valued}
 use Rattle.desk_acts.proofs.word_of.Met as word-of-thm
@@ -29,7 +29,7 @@ use Rattle.desk_acts.proofs.Acts as acts
 use Rattle.table_step.proofs.lose.Met as lose-thm
 
 pub take-write-spec : {M : Type 1} → statement M
-unfolding code.routine takeWriteIn lostTo
+unfolding code.routine take_write_in lost_to
 take-write-spec 𝓤 𝓛 𝓜 𝓡 =
     let does = lent 𝓛 𝓜 𝓡 code.env parts.table in
     let knows = valued 𝓛 𝓜 𝓡 code.env parts.table in
@@ -48,7 +48,7 @@ take-write-spec 𝓤 𝓛 𝓜 𝓡 =
     _ ⨟ lose-met ⨟ (k, (learnt, tt)) ⨟ ((is-k, (is-l, tt)), (need.0, need.2)) ⨟ refl ⨟ refl ⨟ λ is-n. (tt, tt)
     ⨟ _ ⨟ seat-of-met ⨟ (k, tt) ⨟ ((is-k, tt), need.0) ⨟ refl ⨟ refl ⨟ λ is-v.
     _ ⨟ sent-met ⨟ (s, tt) ⨟ ((is-s, tt), tt) ⨟ refl ⨟ refl ⨟ λ is_m.
-    _ ⨟ took-met ⨟ (seatOf t k, (learnt, tt)) ⨟ ((is-v, (is_m, tt)), tt) ⨟ refl ⨟ refl ⨟ λ is-u. (tt, tt)
+    _ ⨟ took-met ⨟ (seat_of t k, (learnt, tt)) ⨟ ((is-v, (is_m, tt)), tt) ⨟ refl ⨟ refl ⨟ λ is-u. (tt, tt)
     ⨟ _ ⨟ word-of-met ⨟ (s, tt) ⨟ ((is-s, tt), tt) ⨟ refl ⨟ refl ⨟ λ is-w.
-    _ ⨟ store-met ⨟ (k, (c, (tookSeat (seatOf t k) learnt, (s.slot.word, tt)))) ⨟ ((is-k, (is_c, (is-u, (is-w, tt)))), (need.0, need.1)) ⨟ refl
+    _ ⨟ store-met ⨟ (k, (c, (took_seat (seat_of t k) learnt, (s.slot.word, tt)))) ⨟ ((is-k, (is_c, (is-u, (is-w, tt)))), (need.0, need.1)) ⨟ refl
     ⨟ refl ⨟ λ _. (tt, record { fits = is-n.1 }) ⨟ _ ⨟ refl ⨟ (refl, is-n, refl, tt))

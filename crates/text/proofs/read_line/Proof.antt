@@ -6,7 +6,7 @@ use mathlib.Core.Path.{◌≡◌, sym, ap}
 use Prim.Native.Nat.{◌+◌}
 use lib.ListN.{length, drop}
 use Rattle.text.specs.Line.{lf, before}
-use Rattle.text.specs.Reading.{followed, noNumbers}
+use Rattle.text.specs.Reading.{followed, no_numbers}
 use Rattle.text.specs.Row.{line-open, line-here}
 use Rattle.text.specs.Cut.{part-before}
 use Rattle.text.specs.declared.Numbers.{Numbers}
@@ -17,7 +17,7 @@ find-requires : tie.Need-find-requires
 find-requires c κs = search rules
 
 returns : tie.Need-returns
-unfolding followed noNumbers
+unfolding followed no_numbers
 returns c = let a = c.before.before.before.args in sym (line-open a.s.now a.at (omega (arith, c.before.find.ensures)))
 
 sub-read-numbers : tie.Need-overflow-sub-read-numbers

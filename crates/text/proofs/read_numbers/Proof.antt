@@ -8,8 +8,8 @@ use mathlib.Core.List.{List}
 use Prim.Native.Nat.{ℕ, ◌+◌, ◌-◌, ◌≤◌}
 use lib.ListN.{length, take, drop, replicate, length-set}
 use Rattle.text.specs.Number.{number_of}
-use Rattle.text.specs.Line.{space, before, numbersOf}
-use Rattle.text.specs.Reading.{as_number, asNumbers, noNumbers}
+use Rattle.text.specs.Line.{space, before, numbers_of}
+use Rattle.text.specs.Reading.{as_number, as_numbers, no_numbers}
 use Rattle.text.specs.Row.{behind, behind-nothing, found-is, found-no, line-short, line-far, row-none, row-turn, row-zeros, row_last, row-over}
 use Rattle.text.specs.Cut.{part-before, part-within}
 use Rattle.text.specs.declared.Number.{Number}
@@ -26,17 +26,17 @@ invariant-loop l n₀ from₀ k₀ n from k = (k ≤ 32)
     × (from ≤ length l)
     × (length n ≡ 32)
     × (drop k n ≡ replicate (32 - k) 0)
-    × (numbersOf l ≡ behind (take k n) (numbersOf (drop from l)))
+    × (numbers_of l ≡ behind (take k n) (numbers_of (drop from l)))
 
 abbrev decreases-loop : tie.decreases-loop
 decreases-loop l n₀ from₀ k₀ n from k = 32 - k
 
 returns : tie.Need-returns invariant-loop decreases-loop
-unfolding asNumbers noNumbers
+unfolding as_numbers no_numbers
 returns c = rw (line-far c.before.before.args.l.now c.if1.true)
 
 loop-holds : tie.Need-loop-init invariant-loop decreases-loop
-loop-holds c = (search rules, search rules, refl, refl, behind-nothing (numbersOf c.before.before.args.l.now))
+loop-holds c = (search rules, search rules, refl, refl, behind-nothing (numbers_of c.before.before.args.l.now))
 
 find-requires : tie.Need-find-requires invariant-loop decreases-loop
 find-requires c κs = search rules
@@ -63,7 +63,7 @@ enum_told : tie.Need-enum-told invariant-loop decreases-loop
 enum_told c = search rules
 
 returns-2 : tie.Need-returns-2 invariant-loop decreases-loop
-unfolding asNumbers noNumbers
+unfolding as_numbers no_numbers
 returns-2 c =
     let at-loop = c.before.before.before.before.before.before in
     let l = at-loop.before.before.before.args.l.now in
@@ -122,7 +122,7 @@ loop-again c =
     )
 
 returns-4 : tie.Need-returns-4 invariant-loop decreases-loop
-unfolding noNumbers
+unfolding no_numbers
 returns-4 c =
     let l = c.before.before.before.before.args.l.now in
     let now = c.before.loop in

@@ -2,7 +2,7 @@
 -- Assumes nothing.
 use borrow.Author.Rules.{rules}
 use native.Mathlib.Omega.{arith}
-use Rattle.text.specs.Line.{badLine}
+use Rattle.text.specs.Line.{bad_line}
 use Rattle.text.specs.Printing.{ended, put-put, room_back}
 use Rattle.text_print.proofs.put_bad_line.Statement.{statement}
 use Rattle.text_print.proofs.put_bad_line.Tie as tie
@@ -11,11 +11,11 @@ slice-aggregate-put-bytes : tie.Need-slice-aggregate-put-bytes
 slice-aggregate-put-bytes c = search rules
 
 put-bytes-requires : tie.Need-put-bytes-requires
-unfolding badLine
+unfolding bad_line
 put-bytes-requires c κs = omega (arith, c.before.before.before.requires)
 
 put-ended-requires : tie.Need-put-ended-requires
-unfolding badLine ended
+unfolding bad_line ended
 put-ended-requires c κs =
     let start = c.before.before.before.before.before.before.before in
     room_back (ended start.args.n 10) c.before.before.before.put-bytes.ensures start.requires
@@ -24,7 +24,7 @@ same_length : tie.Need-same-length
 same_length c = search rules
 
 returns : tie.Need-returns
-unfolding badLine ended
+unfolding bad_line ended
 returns c = put-put c.before.before.before.before.before.before.put-bytes.ensures c.before.before.put_ended.ensures
 
 pub put-bad-line-spec : {M : Type 1} → statement M

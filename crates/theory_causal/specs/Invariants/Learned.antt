@@ -7,7 +7,7 @@ use native.Mathlib.Omega.{arith}
 use Rattle.std.proofs.Math.Decide.{dec_le, ℕ_discrete}
 use Rattle.theory_causal.specs.Changed.{changed-here, changed-elsewhere}
 use Rattle.theory_causal.specs.History.{Words, write, Source, blank, from, History, Writes}
-use Rattle.theory_causal.specs.Facts.{Clock, ◌≼◌, zeros, Knows, Closed, stampOf, Stored, After, Fresh, known, writing}
+use Rattle.theory_causal.specs.Facts.{Clock, ◌≼◌, zeros, Knows, Closed, stamp_of, Stored, After, Fresh, known, writing}
 use Rattle.theory_causal.specs.Machine.{merged, raised, Earlier, Held, Cell, held, Slot, empty, read_asked, write-asked}
 use Rattle.theory_causal.specs.Machine.{read-answered, write-answered, State, Was, Spared}
 use Rattle.theory_causal.specs.Invariants.{Moment, Good, Genuine, Copy, Shelf, Level, Sent, Answer, Slotted, Inv}
@@ -83,8 +83,8 @@ module _ {W : Words} {M : Moment W} {S : State W} (I : Inv M S) where
   good-zeros : Good M zeros
   good-zeros = record { closed = λ w lt k h. absurd (omega (arith, I.counted w lt k)); below = λ j. omega arith }
 
-  good-source : (c : ℕ) (s : Source) → Stored H t c s → Good M (stampOf know s)
-  unfolding stampOf Stored
+  good-source : (c : ℕ) (s : Source) → Stored H t c s → Good M (stamp_of know s)
+  unfolding stamp_of Stored
   good-source c blank h = good-zeros
   good-source c (from v) h =
       let o = writing H h.1.0 in
@@ -98,8 +98,8 @@ module _ {W : Words} {M : Moment W} {S : State W} (I : Inv M S) where
 
   -- a cell's later write knows the source, and has a number that the source does not
   passed-source : (c : ℕ) (s : Source) → Stored H t c s → (w : ℕ) → w < t → Writes H c w → After s w
-      → stampOf know s ≼ know w × (stampOf know s (H w).desk < know w (H w).desk)
-  unfolding stampOf Stored After
+      → stamp_of know s ≼ know w × (stamp_of know s (H w).desk < know w (H w).desk)
+  unfolding stamp_of Stored After
   passed-source c blank h w lt k a = (λ j. omega arith, I.counted w lt k.0)
   passed-source c (from v) h w lt k a =
       let i = I.told w lt (writing H k.0) in

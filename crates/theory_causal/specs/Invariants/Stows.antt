@@ -5,7 +5,7 @@ use Rattle.std.proofs.Common.{sym, ap, subst, subst₂, ◌∙◌, arith}
 use Prim.Native.Nat.{ℕ, ◌≤◌, ◌<◌}
 use Rattle.std.proofs.Math.Decide.{dec_lt, ℕ_discrete}
 use Rattle.theory_causal.specs.History.{Words, Source, blank, from, Step, wrote, Operation, Writes, word_of}
-use Rattle.theory_causal.specs.Facts.{Clock, ◌≼◌, stampOf, Stored, After, Fresh, Told, writing}
+use Rattle.theory_causal.specs.Facts.{Clock, ◌≼◌, stamp_of, Stored, After, Fresh, Told, writing}
 use Rattle.theory_causal.specs.Machine.{Held, Cell, held, write-answered, State, stored, answered, Stores}
 use Rattle.theory_causal.specs.Invariants.{Moment, Genuine, Last, Copy, Good, Shelf, Level, Sent, Answer, Slotted, Fine, Inv}
 use Rattle.theory_causal.specs.Invariants.Learned.{merged-up}
@@ -18,8 +18,8 @@ module _ {W : Words} {M : Moment W} {S : State W} (I : Inv M S) (c : ℕ) where
   open M use {history as H, know, now as t, own}
 
   known-source : (s : Source) → Stored H t c s → ((x : ℕ) → x < t → Writes H c x → After s x → ⊥)
-      → (y : ℕ) → y < t → Writes H c y → know y ≼ stampOf know s
-  unfolding Stored stampOf After
+      → (y : ℕ) → y < t → Writes H c y → know y ≼ stamp_of know s
+  unfolding Stored stamp_of After
   known-source blank h top y lt i = absurd (top y lt i tt)
   known-source (from v) h top y lt i =
       elim (dec_lt v y) [
@@ -50,7 +50,7 @@ module _ {W : Words} {M : Moment W} {S : State W} (I : Inv M S) (S' : State W) (
       → Stores S S' k c (stored t w n) learned new on
       → a ≤ t → ((y : ℕ) → y < t → Operation H y → (H y).desk ≡ p → (H y).asked < a)
       → ((b : ℕ) (g : Held W) → b ≢ c → new b ≡ held g → Fresh H know t b g.source n) → Stowed M S S' p c w n new
-  unfolding Slotted Stored stampOf word_of After
+  unfolding Slotted Stored stamp_of word_of After
   stows e k-t sent grown st le asks fresh = record {
     shelf = record { good = good; copies = λ b g h. elim (ℕ_discrete b c) [ yes i ↦ same b g i h | no ne ↦ other b g ne h ] };
     level = record { number = rw own-p; seen = λ j. rw own-p (omega arith) };

@@ -4,7 +4,7 @@ use Rattle.std.proofs.Math.Path.{◌≡◌, ap}
 use Rattle.std.specs.Prelude.{refl, ◌↔◌, List, ℕ, ◌<◌, length}
 use Rattle.std.proofs.Common.{◌∙◌, arith}
 use Rattle.theory_causal.specs.History.{Words, Source, blank, from, Step, listed, word_of}
-use Rattle.theory_causal.specs.Facts.{Clock, zeros, stampOf, Stored}
+use Rattle.theory_causal.specs.Facts.{Clock, zeros, stamp_of, Stored}
 use Rattle.theory_causal.specs.Machine.{Held, held, read-answered, write-answered, State, Run}
 use Rattle.theory_causal.specs.Invariants.{Genuine, Slotted}
 use Rattle.theory_causal.specs.Invariants.Moves.{waits}
@@ -21,21 +21,21 @@ pub record Sourced {W : Words} (h : List (Step W)) (c : ℕ) (g : Held W) : Type
 
 module _ {W : Words} {h : List (Step W)} {S : State W} (r : Run h S) where
   -- a write's number, which stands in its stamp at the writer's place, is above 0
-  above : (c w : ℕ) (s : Source) → Stored (listed h) (length h) c s → s ≡ from w → (j : ℕ) × (0 < stampOf (know r) s j)
-  unfolding Stored stampOf
+  above : (c w : ℕ) (s : Source) → Stored (listed h) (length h) c s → s ≡ from w → (j : ℕ) × (0 < stamp_of (know r) s j)
+  unfolding Stored stamp_of
   above c w blank i e = let z : ◌≡◌ {A = ℕ} 0 1 = cc in absurd (omega arith)
   above c w (from v) i e = ((listed h v).desk, (invariants r).counted v i.0 i.1.0)
 
-  from-none : (c : ℕ) (s : Source) → Stored (listed h) (length h) c s → stampOf (know r) s ≡ zeros → s ≡ blank
+  from-none : (c : ℕ) (s : Source) → Stored (listed h) (length h) c s → stamp_of (know r) s ≡ zeros → s ≡ blank
   from-none c blank i e = refl
   from-none c (from w) i e = let (j, lt) = above c w (from w) i refl in absurd (omega (arith, ap (λ (a : Clock). a j) e))
 
   sourced : {c : ℕ} {g : Held W} → Genuine (now r) c g → Sourced h c g
-  unfolding stampOf
+  unfolding stamp_of
   sourced {c} {g} i = record {
     stored = i.stored;
     word = i.word;
-    none = (λ e. from-none c g.source i.stored (rw i.stamp at e), λ e. i.stamp ∙ ap (stampOf (know r)) e);
+    none = (λ e. from-none c g.source i.stored (rw i.stamp at e), λ e. i.stamp ∙ ap (stamp_of (know r)) e);
     above = λ w e. rw i.stamp (above c w g.source i.stored e);
   }
 

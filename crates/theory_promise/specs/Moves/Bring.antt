@@ -12,22 +12,22 @@ use Rattle.theory_causal.specs.Machine as machine
 use Rattle.clock.specs.Clock.{number}
 use Rattle.desk.specs.declared.Message.{Message}
 use Rattle.desk.specs.declared.Record.{Record}
-use Rattle.desk.specs.Desk.{noCell, pastCell, keeperOf}
+use Rattle.desk.specs.Desk.{no_cell, past_cell, keeper_of}
 use Rattle.desk.specs.Rules.{learns, holds, brought, brings}
 use Rattle.desk.specs.SameDesk.{brings-same}
 use Rattle.desk.specs.SoundLaws.{RowRule}
 use Rattle.table.specs.declared.Table.{Table}
 use Rattle.table.specs.Room.{Room}
 use Rattle.table.specs.Rows.{row-length}
-use Rattle.table.specs.Table.{recordOf, put_back}
+use Rattle.table.specs.Table.{record_of, put_back}
 use Rattle.theory_promise.specs.Moves.{Moved, Becomes, alone-moved}
 use Rattle.theory_promise.specs.Operations.{words, Trail, Trails, holding}
-use Rattle.theory_promise.specs.State.{clash, held_of, cell_of, slotFor, cells_of, rows, state, merged-numbers, set_here, fate-learned}
+use Rattle.theory_promise.specs.State.{clash, held_of, cell_of, slot_for, cells_of, rows, state, merged-numbers, set_here, fate-learned}
 
-module _ (n : ℕ) (t : Table) (g : Trails) (z : Room t) (p : ℕ) (there : p < 8) (r : RowRule (recordOf t p))
-    (m : Message) (h : m.cell < 32) (ne : keeperOf t.tray m.cell ≢ p) where
+module _ (n : ℕ) (t : Table) (g : Trails) (z : Room t) (p : ℕ) (there : p < 8) (r : RowRule (record_of t p))
+    (m : Message) (h : m.cell < 32) (ne : keeper_of t.tray m.cell ≢ p) where
   abbrev v : Record
-  v = recordOf t p
+  v = record_of t p
 
   abbrev answer : Held words
   answer = held_of (g p).answer m.word m.clock
@@ -43,11 +43,11 @@ module _ (n : ℕ) (t : Table) (g : Trails) (z : Room t) (p : ℕ) (there : p < 
   new = cells_of (brings v m).row b.source
 
   -- another cell is kept, lost, or not strictly before the stamp
-  fate : (c : ℕ) → c ≢ m.cell → causal.Fate (keeperOf t.tray) (rows t g) p (number m.clock) new c
-  unfolding recordOf brings
+  fate : (c : ℕ) → c ≢ m.cell → causal.Fate (keeper_of t.tray) (rows t g) p (number m.clock) new c
+  unfolding record_of brings
   fate =
-      fate-learned t g p r m.clock (holds v m.cell noCell).row m.cell _ _
-      (λ c nc. get_or-set_other v.row m.cell c noCell pastCell nc)
+      fate-learned t g p r m.clock (holds v m.cell no_cell).row m.cell _ _
+      (λ c nc. get_or-set_other v.row m.cell c no_cell past_cell nc)
 
   -- the named cell is held with the answer, and only if *served* is off
   named : machine.Named (rows t g p) m.cell answer new
@@ -56,7 +56,7 @@ module _ (n : ℕ) (t : Table) (g : Trails) (z : Room t) (p : ℕ) (there : p < 
     where
       here : new m.cell ≡ cell_of (brought v.seat.served m) (named-source v.seat.served)
       here =
-          set_here (learns (holds v m.cell noCell) m.clock).row (g p).source m.cell _ _
+          set_here (learns (holds v m.cell no_cell) m.clock).row (g p).source m.cell _ _
           (omega (arith, (brings-same v m).same_length, row-length t p z.sized there))
 
       go : (on : Bool) → v.seat.served ≡ on → cell_of (brought on m) (named-source on) ≡ held k → (k ≡ answer) × (v.seat.served ≡ false)
@@ -68,13 +68,13 @@ module _ (n : ℕ) (t : Table) (g : Trails) (z : Room t) (p : ℕ) (there : p < 
       → (machine.Brings (state t g).last (rows t g p) m.cell answer new
       → Becomes n t g p (machine.brought (rows t g p) (number m.clock) new) o a)
       → Moved n t g (put_back t (brings v m)) (changed g p b) o
-  unfolding recordOf slotFor brings
+  unfolding record_of slot_for brings
   home-moved {a = a} make =
       alone-moved n t g z p there (brings v m) (changed g p b) b
       (brings-same v m) (changed-here g p b) (changed-elsewhere g p b) {a = a}
       (rw (merged-numbers v.seat.clock m.clock)
-      (make (causal.brings (keeperOf t.tray) (rows t g) p m.cell answer new fate named)))
-      (causal.kept-cells (keeperOf t.tray) (rows t g) p (number m.clock) new m.cell ne fate)
+      (make (causal.brings (keeper_of t.tray) (rows t g) p m.cell answer new fate named)))
+      (causal.kept-cells (keeper_of t.tray) (rows t g) p (number m.clock) new m.cell ne fate)
 
   pub bring-read-moved : (rows t g p).slot ≡ read-answered m.cell answer
       → Moved n t g (put_back t (brings v m)) (changed g p b) (showed p m.cell m.word (g p).answer (g p).asked)

@@ -17,19 +17,19 @@ use Rattle.clock.specs.Clock.{number}
 use Rattle.desk.specs.declared.Message.{Message}
 use Rattle.desk.specs.declared.Record.{Record}
 use Rattle.desk.specs.declared.Slot.{Slot}
-use Rattle.desk.specs.Desk.{cell_at, keeperOf, waits}
+use Rattle.desk.specs.Desk.{cell_at, keeper_of, waits}
 use Rattle.desk.specs.Rules.{learns, takes}
 use Rattle.desk.specs.SameDesk.{SameDesk, seat-same, takes_same}
 use Rattle.desk.specs.SoundLaws.{RowRule}
 use Rattle.table.specs.declared.Table.{Table}
 use Rattle.table.specs.Room.{Room}
 use Rattle.table.specs.Rows.{row-length}
-use Rattle.table.specs.Rules.{answered as withAnswer}
-use Rattle.table.specs.Table.{recordOf, put_back}
+use Rattle.table.specs.Rules.{answered as with_answer}
+use Rattle.table.specs.Table.{record_of, put_back}
 use Rattle.table.specs.Touch.{taken-asker, taken-keeper, taken-rest}
 use Rattle.theory_promise.specs.Moves.{Moved}
 use Rattle.theory_promise.specs.Operations.{words, Trail, Trails, holding, answered}
-use Rattle.theory_promise.specs.State.{held_of, cell_of, slotFor, cells_of, row_of, rows, state, row_is, empty-slot, merged-numbers, held-cell}
+use Rattle.theory_promise.specs.State.{held_of, cell_of, slot_for, cells_of, row_of, rows, state, row_is, empty-slot, merged-numbers, held-cell}
 use Rattle.theory_promise.specs.State.{set_here, fate-learned}
 
 -- ---- the rows after it: keeper k's record is u, and answer s stands in desk p's slot
@@ -39,24 +39,24 @@ pub record Two (k p : ℕ) : Type 0 where
   pub apart : p ≢ k
 
 abbrev taken : Table → Record → (desk : ℕ) → Slot → Table
-taken t u p s = put_back (put_back t u) (withAnswer (recordOf (put_back t u) p) s)
+taken t u p s = put_back (put_back t u) (with_answer (record_of (put_back t u) p) s)
 
-module _ (t : Table) (z : Room t) {k p : ℕ} (two : Two k p) (u : Record) (stays : SameDesk (recordOf t k) u) (s : Slot) where
+module _ (t : Table) (z : Room t) {k p : ℕ} (two : Two k p) (u : Record) (stays : SameDesk (record_of t k) u) (s : Slot) where
   module _ (g : Trails) where
     keeper-row : {b : Trail} → g k ≡ b → rows (taken t u p s) g k ≡ row_of u b
     keeper-row = row_is (taken t u p s) g k (taken-keeper t z.sized k p two.keeper two.asker two.apart u stays s)
 
-    asker-row : {b : Trail} → g p ≡ b → rows (taken t u p s) g p ≡ row_of (withAnswer (recordOf t p) s) b
+    asker-row : {b : Trail} → g p ≡ b → rows (taken t u p s) g p ≡ row_of (with_answer (record_of t p) s) b
     asker-row = row_is (taken t u p s) g p (taken-asker t z.sized k p two.keeper two.asker two.apart u stays s)
 
-    rest-row : (q : ℕ) → q ≢ k → q ≢ p → {b : Trail} → g q ≡ b → rows (taken t u p s) g q ≡ row_of (recordOf t q) b
+    rest-row : (q : ℕ) → q ≢ k → q ≢ p → {b : Trail} → g q ≡ b → rows (taken t u p s) g q ≡ row_of (record_of t q) b
     rest-row q nk np = row_is (taken t u p s) g q (taken-rest t z.sized k p two.keeper two.asker two.apart u stays s q nk np)
 
 module _ (n : ℕ) (t : Table) (g : Trails) (z : Room t) (k p : ℕ) (two : Two k p)
-    (m : Message) (mine : keeperOf t.tray m.cell ≡ k) (h : m.cell < 32)
-    (had : (cell_at (recordOf t k).row m.cell).held ≡ true) where
+    (m : Message) (mine : keeper_of t.tray m.cell ≡ k) (h : m.cell < 32)
+    (had : (cell_at (record_of t k).row m.cell).held ≡ true) where
   abbrev v : Record
-  v = recordOf t k
+  v = record_of t k
 
   -- what the keeper holds
   abbrev it : Held words
@@ -71,12 +71,12 @@ module _ (n : ℕ) (t : Table) (g : Trails) (z : Room t) (k p : ℕ) (two : Two 
 
   pub answer-moved : (rows t g p).slot ≡ read_asked m.cell
       → Moved n t g (taken t v p read_answer) (changed g p (answered (g p) ((g k).source m.cell))) nothing
-  unfolding recordOf put_back slotFor
+  unfolding record_of put_back slot_for
   answer-moved e = record {
     learned = zeros;
     move =
         alone p (answers m.cell e)
-        (causal.changes (keeperOf t.tray) (rows t g) (rows (taken t v p read_answer) g') p
+        (causal.changes (keeper_of t.tray) (rows t g) (rows (taken t v p read_answer) g') p
         (asker-row t z two v stays read_answer g' (changed-here g p b)
         ∙ ap (λ (x : Held words). machine.answered (rows t g p) (read-answered m.cell x)) last)
         same
@@ -120,8 +120,8 @@ module _ (n : ℕ) (t : Table) (g : Trails) (z : Room t) (k p : ℕ) (two : Two 
   up = merged-numbers v.seat.clock m.clock
 
   -- another cell is kept, lost, or not strictly before the sent clock
-  fate : RowRule v → (c : ℕ) → c ≢ m.cell → causal.Fate (keeperOf t.tray) (rows t g) k (number m.clock) new c
-  unfolding recordOf takes
+  fate : RowRule v → (c : ℕ) → c ≢ m.cell → causal.Fate (keeper_of t.tray) (rows t g) k (number m.clock) new c
+  unfolding record_of takes
   fate r = fate-learned t g k r m.clock v.row m.cell _ _ (λ c nc. refl)
 
   -- the word is stored
@@ -145,14 +145,14 @@ module _ (n : ℕ) (t : Table) (g : Trails) (z : Room t) (k p : ℕ) (two : Two 
       → Moved n t g (taken t (takes v m) p write-answer)
       (changed (changed g k (holding (g k) m.cell (from n))) p (answered (g p) (from n)))
       (wrote p m.cell m.word (g p).asked)
-  unfolding recordOf put_back takes slotFor cell_of
+  unfolding record_of put_back takes slot_for cell_of
   take-moved r e = record {
     learned = stamped.stamp;
     move = machine.takes k p m.cell m.word (number m.clock) new (on) record {
       apart = two.apart;
       asks = e;
       stores =
-          causal.stores (keeperOf t.tray) (rows t g) (rows after g') k m.cell stamped (number m.clock) new (on)
+          causal.stores (keeper_of t.tray) (rows t g) (rows after g') k m.cell stamped (number m.clock) new (on)
           mine it holds-it here (fate r)
           (keeper-row t z two (takes v m) (takes_same v m) write-answer g'
           (changed-elsewhere (changed g k b) p a k (λ e. two.apart (sym e)) ∙ changed-here g k b)

@@ -7,7 +7,7 @@ use mathlib.Core.Path.{◌≡◌, refl, ap₂, ◌∙◌}
 use mathlib.Core.List.{List}
 use Prim.Native.Nat.{ℕ, ◌-◌, ◌≤◌, max}
 use lib.ListN.{length, set}
-use Rattle.theory_lists.specs.Replaced.{up_to, upTo-step, upTo-all}
+use Rattle.theory_lists.specs.Replaced.{up_to, up_to-step, up_to-all}
 use Rattle.clock.specs.declared.Clock.{Clock}
 use Rattle.clock.specs.Clock.{number, merged, paired}
 use Rattle.clock.specs.Laws.{paired_at, length-paired}
@@ -20,7 +20,7 @@ larger-at a b k = max (number a k) (number b k)
 
 all-replaced : (a b all : Clock) (k : ℕ) → length a.n ≡ 8 → length b.n ≡ 8 → k ≡ 8 → all.n ≡ up_to (larger-at a b) k a.n → all ≡ merged a b
 unfolding merged
-all-replaced a b all k la lb end e = λ i. record { n = (e ∙ upTo-all (larger-at a b) k a.n (paired max a.n b.n) 0 (omega arith) (omega (arith, length-paired max a.n b.n)) (λ j h. paired_at max a.n b.n j)) i }
+all-replaced a b all k la lb end e = λ i. record { n = (e ∙ up_to-all (larger-at a b) k a.n (paired max a.n b.n) 0 (omega arith) (omega (arith, length-paired max a.n b.n)) (λ j h. paired_at max a.n b.n j)) i }
 
 abbrev invariant-loop : tie.invariant-loop
 invariant-loop self other all₀ k₀ all k = (k ≤ 8) × (all.n ≡ up_to (larger-at self other) k self.n)
@@ -65,7 +65,7 @@ loop-again c =
     let a = at-loop.before.args.t1 in
     let b = at-loop.before.args.t2 in
     let k = at-loop.loop.k in
-    (omega arith, ap₂ (λ (l : List ℕ) (x : ℕ). set l k x) at-loop.loop.invariant.1 c.larger.ensures ∙ upTo-step (larger-at a b) k a.n)
+    (omega arith, ap₂ (λ (l : List ℕ) (x : ℕ). set l k x) at-loop.loop.invariant.1 c.larger.ensures ∙ up_to-step (larger-at a b) k a.n)
 
 returns : tie.Need-returns invariant-loop decreases-loop
 returns c =

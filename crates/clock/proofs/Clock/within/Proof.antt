@@ -6,15 +6,15 @@ use mathlib.Core.Path.{◌≡◌, refl, sym}
 use mathlib.Core.Bool.{◌&&◌}
 use Prim.Native.Nat.{◌-◌, ◌≤◌}
 use lib.ListN.{length, drop}
-use Rattle.theory_lists.specs.Each.{mapAt}
-use Rattle.theory_lists.specs.Test.{every, mapAt-turn, mapAt-end}
-use Rattle.clock.specs.Clock.{zeroPast, isWithin}
+use Rattle.theory_lists.specs.Each.{map_at}
+use Rattle.theory_lists.specs.Test.{every, map_at-turn, map_at-end}
+use Rattle.clock.specs.Clock.{zero_past, is_within}
 use Rattle.clock.proofs.Clock.within.Statement.{statement}
 use Rattle.clock.proofs.Clock.within.Tie as tie
 
 abbrev invariant-loop : tie.invariant-loop
 invariant-loop desks self count rest-zero₀ place₀ rest-zero place = (place ≤ 8)
-    × (every (mapAt (zeroPast desks) self.n) ≡ (rest-zero && every (drop place (mapAt (zeroPast desks) self.n))))
+    × (every (map_at (zero_past desks) self.n) ≡ (rest-zero && every (drop place (map_at (zero_past desks) self.n))))
 
 abbrev decreases-loop : tie.decreases-loop
 decreases-loop desks self count rest-zero₀ place₀ rest-zero place = 8 - place
@@ -39,15 +39,15 @@ loop-again c =
     let at-loop = c.before.before in
     let start = at-loop.before.args in
     let long : length start.t1.n ≡ 8 = search rules in
-    (omega arith, mapAt-turn (zeroPast start.desks) start.t1.n 0 at-loop.loop.place at-loop.loop.rest-zero (omega arith) at-loop.loop.invariant.1)
+    (omega arith, map_at-turn (zero_past start.desks) start.t1.n 0 at-loop.loop.place at-loop.loop.rest-zero (omega arith) at-loop.loop.invariant.1)
 
 returns : tie.Need-returns invariant-loop decreases-loop
-unfolding isWithin
+unfolding is_within
 returns c =
     let at-loop = c.before in
     let start = at-loop.before.args in
     let long : length start.t1.n ≡ 8 = search rules in
-    sym (mapAt-end (zeroPast start.desks) start.t1.n 0 at-loop.loop.place at-loop.loop.rest-zero (omega arith) at-loop.loop.invariant.1)
+    sym (map_at-end (zero_past start.desks) start.t1.n 0 at-loop.loop.place at-loop.loop.rest-zero (omega arith) at-loop.loop.invariant.1)
 
 pub within-spec : {M : Type 1} → statement M
 within-spec =

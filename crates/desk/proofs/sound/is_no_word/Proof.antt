@@ -1,12 +1,12 @@
 -- `desk::sound::is_no_word` meets its contract.
 -- Assumes nothing.
 use borrow.Author.Rules.{rules}
-use Rattle.desk.specs.Desk.{isNoWord}
+use Rattle.desk.specs.Desk.{is_no_word}
 use Rattle.desk.proofs.sound.is_no_word.Statement.{statement}
 use Rattle.desk.proofs.sound.is_no_word.Tie as tie
 
 returns : tie.Need-returns
-unfolding isNoWord
+unfolding is_no_word
 returns c = search rules
 
 pub is-no-word-spec : {M : Type 1} → statement M

@@ -6,22 +6,22 @@ use mathlib.Core.Path.{◌≡◌, refl, sym}
 use mathlib.Core.Bool.{◌&&◌}
 use Prim.Native.Nat.{◌-◌, ◌≤◌}
 use lib.ListN.{length, drop}
-use Rattle.theory_lists.specs.Each.{mapAt, length-mapped}
-use Rattle.theory_lists.specs.Test.{every, mapAt-turn, mapAt-end}
-use Rattle.desk.specs.Desk.{noPlace}
-use Rattle.desk.specs.Sound.{countsSound, placeSound, traySound}
+use Rattle.theory_lists.specs.Each.{map_at, length-mapped}
+use Rattle.theory_lists.specs.Test.{every, map_at-turn, map_at-end}
+use Rattle.desk.specs.Desk.{no_place}
+use Rattle.desk.specs.Sound.{counts_sound, place_sound, tray_sound}
 use Rattle.desk.proofs.sound.tray_sound.Statement.{statement}
 use Rattle.desk.proofs.sound.tray_sound.Tie as tie
 
 abbrev invariant-loop : tie.invariant-loop
 invariant-loop t n ok₀ c₀ ok c = (c ≤ 32)
-    × ((countsSound t.counts && every (mapAt (placeSound t.counts) t.places)) ≡ (ok && every (drop c (mapAt (placeSound t.counts) t.places))))
+    × ((counts_sound t.counts && every (map_at (place_sound t.counts) t.places)) ≡ (ok && every (drop c (map_at (place_sound t.counts) t.places))))
 
 abbrev decreases-loop : tie.decreases-loop
 decreases-loop t n ok₀ c₀ ok c = 32 - c
 
 loop-holds : tie.Need-loop-init invariant-loop decreases-loop
-unfolding countsSound
+unfolding counts_sound
 loop-holds c = (search rules, refl)
 
 element-copy-out-place-sound : tie.Need-element-copy-out-place-sound invariant-loop decreases-loop
@@ -41,15 +41,15 @@ loop-again c =
     let at-loop = c.before.before.before in
     let t = at-loop.before.before.before.before.before.before.args.t1 in
     let long : length t.places ≡ 32 = search (rules, length-mapped) in
-    (omega arith, rw c.place-sound.ensures (mapAt-turn (placeSound t.counts) t.places noPlace at-loop.loop.c at-loop.loop.ok (omega arith) at-loop.loop.invariant.1))
+    (omega arith, rw c.place-sound.ensures (map_at-turn (place_sound t.counts) t.places no_place at-loop.loop.c at-loop.loop.ok (omega arith) at-loop.loop.invariant.1))
 
 returns : tie.Need-returns invariant-loop decreases-loop
-unfolding traySound
+unfolding tray_sound
 returns c =
     let at-loop = c.before in
     let t = at-loop.before.before.before.before.before.before.args.t1 in
     let long : length t.places ≡ 32 = search (rules, length-mapped) in
-    sym (mapAt-end (placeSound t.counts) t.places noPlace at-loop.loop.c at-loop.loop.ok (omega arith) at-loop.loop.invariant.1)
+    sym (map_at-end (place_sound t.counts) t.places no_place at-loop.loop.c at-loop.loop.ok (omega arith) at-loop.loop.invariant.1)
 
 pub tray-sound-spec : {M : Type 1} → statement M
 tray-sound-spec =

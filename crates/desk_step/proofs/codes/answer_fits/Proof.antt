@@ -1,7 +1,7 @@
 -- `desk_step::codes::answer_fits` meets its contract.
 -- Assumes nothing.
 use borrow.Author.Rules.{rules}
-use Rattle.desk.specs.Rules.{answerFits}
+use Rattle.desk.specs.Rules.{answer_fits}
 use Rattle.desk_step.proofs.codes.answer_fits.Statement.{statement}
 use Rattle.desk_step.proofs.codes.answer_fits.Tie as tie
 
@@ -15,7 +15,7 @@ word-fits-requires : tie.Need-word-fits-requires
 word-fits-requires c κs = search rules
 
 returns : tie.Need-returns
-unfolding answerFits
+unfolding answer_fits
 returns c =
     let fits = c.before.before.before.before in
     rw (fits.word_fits.ensures, fits.before.in-tray.ensures, fits.before.before.answer-kind.ensures)

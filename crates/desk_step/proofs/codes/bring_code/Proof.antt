@@ -2,27 +2,27 @@
 -- Assumes nothing.
 use borrow.Author.Rules.{rules}
 use borrow.Author.Tests.{not-false}
-use Rattle.desk.specs.Rules.{bringLines}
+use Rattle.desk.specs.Rules.{bring_lines}
 use Rattle.theory_refusals.specs.Refusals.{first_of}
 use Rattle.desk_step.proofs.codes.bring_code.Statement.{statement}
 use Rattle.desk_step.proofs.codes.bring_code.Tie as tie
 
 returns : tie.Need-returns
-unfolding bringLines first_of
+unfolding bring_lines first_of
 returns c = rw c.if1.true
 
 waits-requires : tie.Need-waits-requires
 waits-requires c κs = search rules
 
 returns-2 : tie.Need-returns-2
-unfolding bringLines first_of
+unfolding bring_lines first_of
 returns-2 c = rw (c.before.before.if1.false, ← c.before.waits.ensures, c.if2.true)
 
 answer-fits-requires : tie.Need-answer-fits-requires
 answer-fits-requires c κs = c.before.before.before.requires (not-false _ c.before.before.if1.false)
 
 returns-3 : tie.Need-returns-3
-unfolding bringLines first_of
+unfolding bring_lines first_of
 returns-3 c =
     rw (
       c.before.before.before.before.if1.false,
@@ -33,7 +33,7 @@ returns-3 c =
     )
 
 returns-4 : tie.Need-returns-4
-unfolding bringLines first_of
+unfolding bring_lines first_of
 returns-4 c =
     rw (
       c.before.before.before.before.if1.false,

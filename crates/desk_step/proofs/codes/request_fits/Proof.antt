@@ -4,12 +4,12 @@ use borrow.Author.Rules.{rules}
 use mathlib.Core.Bool.{and-false}
 use borrow.Author.Tests.{le-ltb}
 use Rattle.desk.specs.Desk.{keeps}
-use Rattle.desk.specs.Rules.{requestFits}
+use Rattle.desk.specs.Rules.{request_fits}
 use Rattle.desk_step.proofs.codes.request_fits.Statement.{statement}
 use Rattle.desk_step.proofs.codes.request_fits.Tie as tie
 
 returns : tie.Need-returns
-unfolding requestFits keeps
+unfolding request_fits keeps
 returns c = rw (le-ltb _ _ c.if1.true, and-false)
 
 cast-c : tie.Need-overflow-cast-c
@@ -25,7 +25,7 @@ keeps-requires : tie.Need-keeps-requires
 keeps-requires c κs = search rules
 
 returns-2 : tie.Need-returns-2
-unfolding requestFits
+unfolding request_fits
 returns-2 c =
     let sent = c.before.before.before.before.before.before in
     rw (sent.before.in-tray.ensures, sent.sent-fits.ensures, c.keeps.ensures)
