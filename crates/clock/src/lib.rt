@@ -1,10 +1,11 @@
+#![tactic(auto)]
 // A clock: eight 32-bit numbers, one per desk. It tells which writes a desk knows of.
 ghost use Rattle.std.specs.Prelude.{◌≡◌, max};
 ghost use Rattle.clock.specs.Clock.{zero_clock, merged, is_before, is_within};
 ghost use Rattle.clock.specs.Order.{order_of};
 
 #[repr(C)]
-#[derive(Drop)]
+#[derive(Clone, Copy)]
 pub struct Clock {
     pub n: [u32; 8],
 }

@@ -1,3 +1,4 @@
+#![tactic(auto)]
 // The library for Rust and C. A lent record or table is made and stepped where it lies.
 ghost use Rattle.std.specs.Prelude.{◌≡◌};
 ghost use Rattle.desk.specs.Rules.{answer_of, event_rule, serve_rule, bring_rule};

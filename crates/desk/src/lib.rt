@@ -1,3 +1,4 @@
+#![tactic(auto)]
 // One desk: its record, what passes between desks, and whether a record is sound. What a desk does stands in the crates above.
 use clock::Clock;
 
@@ -5,7 +6,7 @@ pub mod sound;
 
 // What a desk has of one cell. A cell that is not held has word 0 and the zero stamp.
 #[repr(C)]
-#[derive(Drop)]
+#[derive(Clone, Copy)]
 pub struct Cell {
     pub held: bool,
     pub word: u32,
@@ -30,7 +31,7 @@ impl Cell {
 
 // What a desk waits for: kind 0 nothing, 1 read asked, 2 write asked (word, sent clock), 3 read answered, 4 write answered (word, stamp).
 #[repr(C)]
-#[derive(Drop)]
+#[derive(Clone, Copy)]
 pub struct Slot {
     pub kind: u8,
     pub cell: u8,
@@ -50,7 +51,7 @@ impl Slot {
 
 // What a desk has beside its cells. *served*: it served a write while it waited.
 #[repr(C)]
-#[derive(Drop)]
+#[derive(Clone, Copy)]
 pub struct Seat {
     pub clock: Clock,
     pub slot: Slot,
@@ -68,7 +69,7 @@ impl Seat {
 
 // A cell's place in the tray: who keeps it.
 #[repr(C)]
-#[derive(Drop)]
+#[derive(Clone, Copy)]
 pub struct Place {
     pub keeper: u8,
 }
@@ -79,7 +80,7 @@ impl Place {
 }
 
 #[repr(C)]
-#[derive(Drop)]
+#[derive(Clone, Copy)]
 pub struct Counts {
     pub desks: u8,
     pub cells: u8,
@@ -87,7 +88,7 @@ pub struct Counts {
 
 // The tray as it was set up.
 #[repr(C)]
-#[derive(Drop)]
+#[derive(Clone, Copy)]
 pub struct Tray {
     pub counts: Counts,
     pub places: [Place; 32],
@@ -103,7 +104,7 @@ impl Tray {
 
 // A desk's record, which its program lends it: its row of the table, with the tray and the desk's number.
 #[repr(C)]
-#[derive(Drop)]
+#[derive(Clone, Copy)]
 pub struct Record {
     pub tray: Tray,
     pub desk: u8,
@@ -113,7 +114,7 @@ pub struct Record {
 
 // What somebody wants of a desk: kind 1 read, 2 write, 3 take, 4 bring, 5 drop. Any number may stand anywhere.
 #[repr(C)]
-#[derive(Drop)]
+#[derive(Clone, Copy)]
 pub struct Event {
     pub kind: u32,
     pub desk: u32,
@@ -122,7 +123,7 @@ pub struct Event {
 }
 
 #[repr(C)]
-#[derive(Drop)]
+#[derive(Clone, Copy)]
 pub struct Reply {
     pub code: u32,
     pub value: u32,
@@ -131,7 +132,7 @@ pub struct Reply {
 
 // What desks send each other. The kinds are those of a full slot; the desk is the one that asked.
 #[repr(C)]
-#[derive(Drop)]
+#[derive(Clone, Copy)]
 pub struct Message {
     pub kind: u8,
     pub desks: u8,
@@ -154,7 +155,7 @@ impl Message {
 }
 
 // What a step gives: the reply, the message to send (all zero where there is none), and the record afterwards.
-#[derive(Drop)]
+#[derive(Clone, Copy)]
 pub struct Step {
     pub reply: Reply,
     pub message: Message,
@@ -163,7 +164,7 @@ pub struct Step {
 
 // What a step gives beside the record, which goes back to the lender.
 #[repr(C)]
-#[derive(Drop)]
+#[derive(Clone, Copy)]
 pub struct Answer {
     pub reply: Reply,
     pub message: Message,
@@ -171,7 +172,7 @@ pub struct Answer {
 
 // All that set-up and start are told. Any number may stand anywhere; keepers past the cell count are ignored.
 #[repr(C)]
-#[derive(Drop)]
+#[derive(Clone, Copy)]
 pub struct Plan {
     pub desks: u32,
     pub cells: u32,
@@ -179,7 +180,7 @@ pub struct Plan {
 }
 
 // What starting comes to, as the definitions say it: code 0 and the desk's fresh record, or a refusal and an all-zero one.
-#[derive(Drop)]
+#[derive(Clone, Copy)]
 pub struct Started {
     pub code: u32,
     pub record: Record,

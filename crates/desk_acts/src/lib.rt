@@ -1,3 +1,4 @@
+#![tactic(auto)]
 // What a desk's steps make of a seat and of a cell, by value. Record and table are thin functions over these.
 ghost use Rattle.std.specs.Prelude.{◌≡◌, ◌+◌, ◌*◌, ◌<◌, eqb};
 ghost use Rattle.clock.specs.Clock.{number, raised};

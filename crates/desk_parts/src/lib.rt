@@ -1,3 +1,4 @@
+#![tactic(auto)]
 // A desk's record through a reference: its parts, each read and stored where it lies. A name begins with *own*: it is the desk's own.
 ghost use Rattle.std.specs.Prelude.{◌≡◌, ◌<◌};
 ghost use Rattle.desk.specs.Desk.{no_cell, no_seat, cell_at, place_at};

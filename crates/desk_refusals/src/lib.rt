@@ -1,3 +1,4 @@
+#![tactic(auto)]
 // What a seat refuses, for the desk's own events and the table's.
 ghost use Rattle.std.specs.Prelude.{◌&&◌, ◌≡◌, ◌<◌, ◌≤◌, eqb};
 ghost use Rattle.clock.specs.Clock.{number};

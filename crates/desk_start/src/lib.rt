@@ -1,3 +1,4 @@
+#![tactic(auto)]
 // Starting: a tray as it is set up, and a desk's fresh record on it. The table sets itself up from the same parts.
 ghost use Rattle.std.specs.Prelude.{◌≡◌, ◌≤◌, replicate};
 ghost use Rattle.desk.specs.Desk.{no_cell};

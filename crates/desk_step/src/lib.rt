@@ -1,3 +1,4 @@
+#![tactic(auto)]
 // A desk's three steps where its record lies: a step names the cells that it touches, and nothing large is copied.
 ghost use Rattle.std.specs.Prelude.{◌≡◌, ◌<◌, ◌≤◌};
 ghost use Rattle.desk.specs.Desk.{cell_at, place_at};

@@ -1,3 +1,4 @@
+#![tactic(auto)]
 // Soundness as a running sum that is tested once: what each cell and each seat adds, and the test.
 // A walk over a table's or a record's entries calls these, each on small things by value.
 ghost use Rattle.std.specs.Prelude.{◌≡◌};
@@ -11,7 +12,7 @@ use desk::{Cell, Counts, Place, Seat, Slot, Tray};
 
 // h is over what may have a number for each desk, z over clocks that must be zero, w over what else must be.
 // (w is wider than a clock's numbers, else the compiler takes those one by one.)
-#[derive(Drop)]
+#[derive(Clone, Copy)]
 pub struct Sum {
     pub h: Clock,
     pub z: Clock,

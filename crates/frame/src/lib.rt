@@ -1,3 +1,4 @@
+#![tactic(auto)]
 // Frames: one message as one row of bytes, and back. Here is what both ways share; reading and writing stand in the crates above.
 ghost use Rattle.std.specs.Prelude.{◌≡◌, ◌||◌, ltb};
 ghost use Rattle.frame.specs.Frame.{carried, fault_of};
@@ -6,7 +7,7 @@ use desk::Message;
 
 // What reading gives: code 0, the message and how many bytes its frame has; or a refusal with an all-zero message and 0 used.
 #[repr(C)]
-#[derive(Drop)]
+#[derive(Clone, Copy)]
 pub struct Reading {
     pub code: u32,
     pub message: Message,
@@ -15,7 +16,7 @@ pub struct Reading {
 
 // What writing tells: code 0 and how many bytes the frame has; or a refusal and 0 used.
 #[repr(C)]
-#[derive(Drop)]
+#[derive(Clone, Copy)]
 pub struct Written {
     pub code: u32,
     pub used: usize,

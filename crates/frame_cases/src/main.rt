@@ -1,3 +1,4 @@
+#![tactic(auto)]
 // Runs frame vectors. Each line of input is a case, and is written again with what reading or writing gives; `-` stands for no bytes.
 //     R <hex input>                                          and then code, used, kind, desks, desk, cell, word, eight clock numbers
 //     W <kind desks desk cell word, eight clock numbers, room>  and then code, used, hex of the output, each byte of which was EE before
@@ -7,7 +8,7 @@ use frame::{Reading, Written};
 use libc::{STDIN_FILENO, STDOUT_FILENO};
 
 // A case as far as its line has been read.
-#[derive(Drop)]
+#[derive(Clone, Copy)]
 struct Case {
     writes: bool,
     field: usize,

@@ -1,3 +1,4 @@
+#![tactic(auto)]
 // Reading a frame: the message that a row of bytes starts with.
 ghost use Rattle.std.specs.Prelude.{◌≡◌, ◌+◌, ◌*◌, ◌≤◌, length, take, drop};
 ghost use Rattle.spelling.specs.Bytes.{numeral};

@@ -1,3 +1,4 @@
+#![tactic(auto)]
 // Writing a frame: a message as a row of bytes.
 ghost use Rattle.std.specs.Prelude.{◌≡◌, ◌∷◌, ◌++◌, ◌+◌, ◌*◌, ◌≤◌, length, take, drop};
 ghost use Rattle.theory_lists.specs.Each.{map_at};

@@ -1,3 +1,4 @@
+#![tactic(auto)]
 // What the script program answers, as a function from an input slice to an output slice.
 ghost use Rattle.std.specs.Prelude.{true, ◌∷◌, [], ◌≡◌, ◌+◌, ◌≤◌, ◌<◌, length, drop};
 ghost use Rattle.table.specs.Room.{Room};

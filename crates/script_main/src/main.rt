@@ -1,3 +1,4 @@
+#![tactic(auto)]
 // The script program: reads standard input to its end, and writes what `script::answer` says of it. What it reads and writes no contract
 // can say, so all else is in that function.
 ghost use Rattle.std.specs.Prelude.{◌≤◌, length};
@@ -5,7 +6,7 @@ ghost use Rattle.std.specs.Prelude.{◌≤◌, length};
 use libc::{STDIN_FILENO, STDOUT_FILENO};
 
 // Whether all reads went well, and how many bytes they put at the start of the buffer.
-#[derive(Drop)]
+#[derive(Clone, Copy)]
 struct Input {
     ok: bool,
     count: usize,

@@ -1,3 +1,4 @@
+#![tactic(auto)]
 // Numbers as bytes, big-endian, two or four each; and back. What a row of them means is another's.
 ghost use Rattle.std.specs.Prelude.{◌≡◌, [], ◌∷◌, ◌+◌, ◌*◌, ◌≤◌, length, take, drop, replicate};
 ghost use Rattle.spelling.specs.Bytes.{numeral, bytes, spell, put};

@@ -1,9 +1,10 @@
+#![tactic(auto)]
 // The table of all desks, with their messages under way: its type. What is done with it stands in the crates above.
 use desk::{Cell, Reply, Seat, Tray};
 
 // Desk d's cell c is entry d * 32 + c of `cells`.
 #[repr(C)]
-#[derive(Drop)]
+#[derive(Clone, Copy)]
 pub struct Table {
     pub cells: [Cell; 256],
     pub tray: Tray,
@@ -20,14 +21,14 @@ impl Table {
 }
 
 // What an event gives: the reply, and the table afterwards.
-#[derive(Drop)]
+#[derive(Clone, Copy)]
 pub struct Outcome {
     pub reply: Reply,
     pub after: Table,
 }
 
 // What setting up gives: code 0 and the fresh table, or a refusal and an all-zero one.
-#[derive(Drop)]
+#[derive(Clone, Copy)]
 pub struct SetUp {
     pub code: u32,
     pub table: Table,

@@ -1,3 +1,4 @@
+#![tactic(auto)]
 // An event on a sound table held by value: the table is lent to the step that works where it lies.
 ghost use Rattle.std.specs.Prelude.{true, ◌≡◌};
 ghost use Rattle.table.specs.Rules.{event_rule};

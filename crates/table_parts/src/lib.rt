@@ -1,3 +1,4 @@
+#![tactic(auto)]
 // The table through a reference: its parts, each read and stored where it lies.
 ghost use Rattle.std.specs.Prelude.{◌≡◌, ◌<◌};
 ghost use Rattle.desk.specs.Desk.{no_cell, no_seat, cell_at, place_at};

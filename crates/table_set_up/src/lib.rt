@@ -1,3 +1,4 @@
+#![tactic(auto)]
 // Setting up a table where it lies, and one that its caller owns.
 ghost use Rattle.std.specs.Prelude.{◌≡◌, replicate};
 ghost use Rattle.desk.specs.Desk.{no_cell, no_seat};

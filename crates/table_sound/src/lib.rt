@@ -1,3 +1,4 @@
+#![tactic(auto)]
 // Whether a table is sound, where it lies: everything that must fit is laid into one sum, which is tested at the end.
 ghost use Rattle.std.specs.Prelude.{◌≡◌, ◌+◌, ◌*◌, ◌<◌, ◌≤◌};
 ghost use Rattle.desk.specs.Desk.{cell_at, place_at};

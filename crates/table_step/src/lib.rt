@@ -1,3 +1,4 @@
+#![tactic(auto)]
 // The five events where the table lies: a step names the cells and seats that it touches, and nothing large is copied.
 ghost use Rattle.std.specs.Prelude.{true, ◌≡◌, ◌<◌, ◌≤◌};
 ghost use Rattle.clock.specs.Clock.{number};

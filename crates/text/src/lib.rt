@@ -1,3 +1,4 @@
+#![tactic(auto)]
 // The script's text is read: lines of decimal numbers, one space between, each ended by LF. What is printed stands in `printing`.
 ghost use Rattle.std.specs.Prelude.{◌≡◌, ◌+◌, ◌≤◌, length, drop};
 ghost use Rattle.text.specs.Number.{starts_well, number_of};
@@ -7,21 +8,21 @@ ghost use Rattle.text.specs.Reading.{past, grown_by, capped, within, as_number, 
 // One past the largest number. It stands for whatever is no number.
 const PAST: u64 = 4294967296;
 
-#[derive(Drop)]
+#[derive(Clone, Copy)]
 enum Number {
     Is(u32),
     No,
 }
 
 // The numbers of a line, and zeros after them. A line that is malformed or has more than 32 numbers has count 0.
-#[derive(Drop)]
+#[derive(Clone, Copy)]
 struct Numbers {
     count: usize,
     n: [u32; 32],
 }
 
 // The same, with the place where the next line starts. Where no LF ends the line, all is 0.
-#[derive(Drop)]
+#[derive(Clone, Copy)]
 pub struct Line {
     pub count: usize,
     pub n: [u32; 32],

@@ -1,3 +1,4 @@
+#![tactic(auto)]
 // Replies, and the words that the script ends with, put into a slice. Each function asks that the text fits: the script's
 // buffer has room for all that an input can answer, so a refusal would never be seen.
 ghost use Rattle.std.specs.Prelude.{◌∷◌, []};
