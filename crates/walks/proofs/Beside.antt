@@ -7,7 +7,7 @@ use mathlib.Core.Option.{none}
 use mathlib.Core.Option as Opt
 use Prim.Native.Nat.{ℕ}
 use seplogic.Ra.Ura.{Ura}
-use mir.Syntax.{Name, Fn, Ty, Local, named, erased, imm, mut, ty_ref, local, value_local, place, deref, copy, addr_of, rv_opd, seq, assign, call, return}
+use mir.Syntax.{Callee as Name, Fn, Ty, Local, named, erased, imm, mut, ty_ref, local, value_local, place, deref, copy, addr_of, rv_opd, seq, assign, call, return}
 use mir.Raw.{raw as raw_ty}
 use mir.Val.{Val, vptr}
 use base.Logic.{SProp, ent, sep, ex, emp, guard, via, fst∗}
@@ -85,6 +85,8 @@ module _ (T U R : Plain) (res : Of T → Of U → Of R) (after : Of T → Of U �
   pass_fn g = record {
     lifetimes = 2;
     outlives = [];
+    ty_params = [];
+    givens = 0;
     params = 2;
     locals = value (ty R) ∷ value (lent_ty T) ∷ value shared_ty ∷ value again_ty ∷ value (ty U) ∷ [];
     body =

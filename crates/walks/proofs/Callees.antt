@@ -6,8 +6,8 @@ use mathlib.Core.Path.{◌≡◌, sym, ap, subst, ◌∙◌}
 use mathlib.Core.List.{List, [], ◌∷◌}
 use Prim.Native.Nat.{ℕ}
 use seplogic.Ra.Ura.{Ura}
-use seplogic.Ra.TreeShare.{full_share}
-use mir.Syntax.{Name, named}
+use base.Fraction.{full_share}
+use mir.Syntax.{Callee as Name, named}
 use mir.Val.{Val, vptr}
 use base.Logic.{SProp, ent, sep, emp, guard, via, id⊢, ex_e, fst∗, snd∗, guard_i}
 use base.Fml.{GName, Lft, Share, Fml, flft, ftrue, fres}

@@ -188,7 +188,7 @@ module _ (S : Form) (k : ℕ) where
     off = λ o. o + d;
     goes = λ b o w. fld ! at w;
     lay = λ t u. vstruct (set_v (machine (values t)) k u);
-    lies = λ {W = W} t {i} {q} {b} {o} {back} w.
+    lies = λ {𝓛 = W} t {i} {q} {b} {o} {back} w.
         subst (λ (v : Val). Within (Go {0}) W i q (ty (field_plain one)) b (o + d) v (λ u. back (vstruct (set_v (machine (values t)) k u))))
         (got Fs S.laws (values t) k) (sub ! k at (subst (λ (v : Val). Within (Go {0}) W i q (ty (struct S)) b o v back) (S.same t) w));
     lays = laid one;

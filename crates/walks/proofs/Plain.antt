@@ -16,6 +16,7 @@ use contract.Lifetimes.{Lfts}
 use denote.Exit.{yes, unchanged}
 use denote.Laws.{Typed, Is, Ises, Are, Tellss, Spells, valss}
 use denote.Memory.{lone}
+use denote.Param.Drops.{still_Drops}
 use denote.Plain.{uint_Tells, uint_Lawful}
 use denote.RattleType.{RattleType, Denots, Valss, owns, flat}
 use denote.Shadow.{makes_shadow}
@@ -62,9 +63,11 @@ row_of P = record {
   mir = ty P ∷ [];
   written = P.F.row.written;
   reaches = P.F.row.reaches;
+  lives = P.F.row.lives;
   own_val = own P;
   exit = λ k. unchanged;
   coded = coded P;
+  shr_at = λ x. P.F.row.shr_at (P.F.into x);
 }
 
 pub has-type : {M : Type 1} {𝓤 : Ura M} (𝓛 : Logic 𝓤) (P : Plain) (x : Of P) → IsOf P x → HasType (ty P) (val P x)
@@ -78,7 +81,7 @@ at-val P x vs is = subst (Is P.F.row (P.F.into x)) (P.L.low-is x vs is) is
 abbrev pub number : Width → Plain
 number w = record {
   F = uint_field w;
-  L = record { val = vint w; tells = uint_Tells w; low = vint w; low-is = uint_Tells w; lawful = λ 𝓛. uint_Lawful 𝓛 w };
+  L = record { val = vint w; tells = uint_Tells w; low = vint w; low-is = uint_Tells w; lawful = λ 𝓛. uint_Lawful 𝓛 w; drops = λ 𝓛. still_Drops 𝓛 (uint_field w).row (λ k. refl) };
   facts = λ n vs. (tt, tt);
   one = refl;
 }

@@ -9,7 +9,7 @@ use mathlib.Core.Option as Opt
 use Prim.Native.Nat.{ℕ}
 use seplogic.Ra.Ura.{Ura}
 use lib.ListN.{length}
-use mir.Syntax.{Name, Fn, Ty, named, imm, mut, ty_ref, place, deref, copy, rv_opd}
+use mir.Syntax.{Callee as Name, Fn, Ty, named, imm, mut, ty_ref, place, deref, copy, rv_opd}
 use mir.Raw.{raw as raw_ty}
 use mir.Val.{Val, vptr}
 use base.Logic.{SProp, ent, sep, ex, emp, guard, via, id⊢, fst∗, ex_e, guard_i}
