@@ -122,7 +122,8 @@ module _ {M : Type 1} {𝓤 : Ura M} (𝓛 : Logic 𝓤) (Ts : Tables 𝓤 𝓛.
           fact_use 𝓤 φ (snd∗ 𝓤 L (fact 𝓤 φ)) (λ e.
           let s = F.says t a r ws.0 (subst (λ (x : Args F.Ps). F.ens t x r ws.0) (fro-to 1 (α ∷ [], tt) F.Ps a) e) in
           subst (λ (u : Of T). ent 𝓤 (sep 𝓤 L (fact 𝓤 φ)) (guard 𝓤 (r ≡ F.res t a) (A.res δ ((coded T).code u)))) s.1
-          (via 𝓤 L (fst∗ 𝓤 L (fact 𝓤 φ)) (via 𝓤 (sep 𝓤 P B) (fst∗ 𝓤 (sep 𝓤 P B) N) (via 𝓤 P (fst∗ 𝓤 P B) (guard_i 𝓤 (r ≡ F.res t a) P s.0))))))
+          (via 𝓤 L (fst∗ 𝓤 L (fact 𝓤 φ)) (via 𝓤 (sep 𝓤 P B) (fst∗ 𝓤 (sep 𝓤 P B) N)
+          (via 𝓤 P (fst∗ 𝓤 P B) (guard_i 𝓤 (r ≡ F.res t a) P s.0))))))
 
       abbrev After : Val → SProp 𝓤
       After r = guard 𝓤 ((r ≡ val F.R (F.res t a)) × IsOf F.R (F.res t a)) (mean 𝓛 (closed 𝓛 T κ q b o γ (F.after t a)))

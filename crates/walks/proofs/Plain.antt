@@ -1,6 +1,6 @@
 -- Plain types, of which what is owned are facts only: numbers, bools, `()`, structs, and arrays as parts of structs. A plain type is a field
--- of the logic (`denote.Struct.Field`) with its laws, those of a `&` to it among them (`copy`), so that a struct's parts are plain types of the same kind as the struct. Then lists of
--- plain parameters, as a signature and a call have them.
+-- of the logic (`denote.Struct.Field`) with its laws, those of a `&` to it among them (`copy`), so that a struct's parts are plain types of the
+-- same kind as the struct. Then lists of plain parameters, as a signature and a call have them.
 -- Assumes nothing.
 use mathlib.Core.Path.{◌≡◌, refl, ap, subst}
 use mathlib.Core.List.{List, [], ◌∷◌, ◌++◌}
@@ -83,7 +83,14 @@ at-val P x vs is = subst (Is P.F.row (P.F.into x)) (P.L.low-is x vs is) is
 abbrev pub number : Width → Plain
 number w = record {
   F = uint_field w;
-  L = record { val = vint w; tells = uint_Tells w; low = vint w; low-is = uint_Tells w; lawful = λ 𝓛. uint_Lawful 𝓛 w; drops = λ 𝓛. still_Drops 𝓛 (uint_field w).row (λ k. refl) };
+  L = record {
+    val = vint w;
+    tells = uint_Tells w;
+    low = vint w;
+    low-is = uint_Tells w;
+    lawful = λ 𝓛. uint_Lawful 𝓛 w;
+    drops = λ 𝓛. still_Drops 𝓛 (uint_field w).row (λ k. refl);
+  };
   facts = λ n vs. (tt, tt);
   copy = record {
     val = vint w;
