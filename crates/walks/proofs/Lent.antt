@@ -8,8 +8,8 @@ use mathlib.Core.Option as Opt
 use mathlib.Core.List.{List, [], ◌∷◌, ◌++◌}
 use Prim.Native.Nat.{ℕ}
 use seplogic.Ra.Ura.{Ura}
-use seplogic.Ra.TreeShare.{full_share}
-use mir.Syntax.{Name, Fn, Ty, named, mut, ty_ref}
+use base.Fraction.{full_share}
+use mir.Syntax.{Callee as Name, Fn, Ty, named, mut, ty_ref}
 use mir.Raw.{raw as raw_ty}
 use mir.Val.{Val, vptr}
 use base.Logic.{SProp, ent, sep, emp, guard, via, id⊢, comm∗, mono_l, emp∗, fst∗}

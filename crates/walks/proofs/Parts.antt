@@ -82,6 +82,11 @@ plain_k [] ps k = LL.unit-plain
 plain_k (F ∷ Fs) ps zero = ps.0
 plain_k (F ∷ Fs) ps (suc k) = plain_k Fs ps.1 k
 
+abbrev copy_k : (Fs : List Field) → LL.Copyables Fs → (k : ℕ) → LL.Copyable (field_k Fs k)
+copy_k [] cs k = LL.unit-copy
+copy_k (F ∷ Fs) cs zero = cs.0
+copy_k (F ∷ Fs) cs (suc k) = copy_k Fs cs.1 k
+
 abbrev get_k : (Fs : List Field) → Values Fs → (k : ℕ) → (field_k Fs k).Value
 get_k [] xs k = tt
 get_k (F ∷ Fs) xs zero = xs.0
@@ -135,7 +140,7 @@ module _ (S : Form) (k : ℕ) where
   field_one = (field_k Fs k).row.mir ≡ lone (field_k Fs k).row.mir ∷ []
 
   abbrev pub field_plain : field_one → Plain
-  field_plain one = record { F = field_k Fs k; L = laws_k Fs S.laws k; facts = plain_k Fs S.facts k; one = one }
+  field_plain one = record { F = field_k Fs k; L = laws_k Fs S.laws k; facts = plain_k Fs S.facts k; copy = copy_k Fs S.copies k; one = one }
 
   abbrev values : S.N.D → Values Fs
   values t = S.N.as_values t
@@ -188,7 +193,7 @@ module _ (S : Form) (k : ℕ) where
     off = λ o. o + d;
     goes = λ b o w. fld ! at w;
     lay = λ t u. vstruct (set_v (machine (values t)) k u);
-    lies = λ {W = W} t {i} {q} {b} {o} {back} w.
+    lies = λ {𝓛 = W} t {i} {q} {b} {o} {back} w.
         subst (λ (v : Val). Within (Go {0}) W i q (ty (field_plain one)) b (o + d) v (λ u. back (vstruct (set_v (machine (values t)) k u))))
         (got Fs S.laws (values t) k) (sub ! k at (subst (λ (v : Val). Within (Go {0}) W i q (ty (struct S)) b o v back) (S.same t) w));
     lays = laid one;
