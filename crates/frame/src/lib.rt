@@ -23,6 +23,7 @@ pub struct Written {
 }
 
 // What reading and writing refuse alike.
+#[tactic(auto, unfolding(crate::specs::Frame::fault_lines, theory_refusals::specs::Refusals::first_of))]
 pub fn fault(kind: u8, desks: u8, desk: u8, cell: u8) -> u32
     ensures { result ≡ fault_of kind desks desk cell }
 {
@@ -51,6 +52,7 @@ fn outside(low: u8, high: u8, x: u8) -> bool
 }
 
 // How many a frame carries of the word and the clock's numbers: a read asked has none of them.
+#[tactic(auto, unfolding(crate::specs::Frame::carried))]
 pub fn carries(kind: u8, desks: u8) -> usize
     ensures { result ≡ carried kind desks }
 {

@@ -18,12 +18,14 @@ pub fn four_at(s: &[u8], at: usize) -> u32
     four(s[at], s[at + 1], s[at + 2], s[at + 3])
 }
 
+#[tactic(auto, unfolding(crate::specs::Bytes::followed))]
 fn two(a: u8, b: u8) -> usize
     ensures { result ≡ numeral (a ∷ b ∷ []) }
 {
     a as usize * 256 + b as usize
 }
 
+#[tactic(auto, unfolding(crate::specs::Bytes::followed))]
 fn four(a: u8, b: u8, c: u8, d: u8) -> u32
     ensures { result ≡ numeral (a ∷ b ∷ c ∷ d ∷ []) }
 {

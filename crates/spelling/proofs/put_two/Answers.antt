@@ -1,0 +1,12 @@
+-- Two stores, which are the number's bytes.
+use Rattle.std.proofs.Common.{[], ◌∷◌, ◌/◌, ◌%◌, add-one, arith}
+use Rattle.std.proofs.Math.Seq.{sets-eq}
+use Rattle.spelling.specs.Bytes.{bytes}
+use Rattle.spelling.proofs.put_two.Goals as goal
+
+pub returns : goal.returns
+unfolding bytes
+returns c =
+    let at = c.args.at in
+    let x = c.args.x in
+    rw (add-one at) (sets-eq (x / 256 % 256 ∷ x % 256 ∷ []) c.args.out.now at (omega arith))
