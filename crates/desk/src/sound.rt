@@ -6,12 +6,14 @@ ghost use Rattle.desk.specs.Sound.{word_fits, sent_fits, place_sound, tray_sound
 use crate::{Counts, Place, Slot, Tray};
 use clock::Clock;
 
+#[tactic(auto, unfolding(crate::specs::Desk::waits))]
 pub fn waits(s: Slot) -> bool
     ensures { result ≡ waits_def s }
 {
     s.kind != 0
 }
 
+#[tactic(auto, unfolding(crate::specs::Desk::is_no_word))]
 fn is_no_word(word: u32) -> bool
     ensures { result ≡ is_no_word word }
 {
@@ -19,6 +21,7 @@ fn is_no_word(word: u32) -> bool
 }
 
 // Whether a stamp is one that no write has: all zeros.
+#[tactic(auto, unfolding(crate::specs::Desk::is_blank))]
 pub fn is_blank(stamp: Clock) -> bool
     ensures { result ≡ is_blank stamp }
 {
@@ -26,6 +29,7 @@ pub fn is_blank(stamp: Clock) -> bool
 }
 
 // Word 0 wherever the stamp is all zeros.
+#[tactic(auto, unfolding(crate::specs::Sound::word_fits))]
 pub fn word_fits(word: u32, stamp: Clock) -> bool
     ensures { result ≡ word_fits word stamp }
 {
@@ -33,6 +37,7 @@ pub fn word_fits(word: u32, stamp: Clock) -> bool
 }
 
 // No write is asked under a clock that is all zeros.
+#[tactic(auto, unfolding(crate::specs::Sound::sent_fits))]
 pub fn sent_fits(kind: u8, sent: Clock) -> bool
     ensures { result ≡ sent_fits kind sent }
 {
@@ -47,6 +52,7 @@ fn keeps_at(n: Counts, p: Place, desk: u8, c: usize) -> bool
     (c < cells) & (p.keeper == desk)
 }
 
+#[tactic(auto, unfolding(crate::specs::Desk::keeps))]
 pub fn keeps(t: Tray, desk: u8, c: usize) -> bool
     requires { c < 32 }
     ensures { result ≡ keeps_def t desk c }
@@ -54,6 +60,7 @@ pub fn keeps(t: Tray, desk: u8, c: usize) -> bool
     keeps_at(t.counts, t.places[c], desk, c)
 }
 
+#[tactic(auto, unfolding(crate::specs::Sound::place_sound))]
 fn place_sound(n: Counts, c: usize, p: Place) -> bool
     ensures { result ≡ place_sound n c p }
 {
