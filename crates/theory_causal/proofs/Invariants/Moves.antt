@@ -10,12 +10,12 @@ use Rattle.theory_causal.specs.Machine.{merged, raised, Held, Cell, Slot, empty,
 use Rattle.theory_causal.specs.Machine.{asks_write, answers, reads, brings-read, brings-write, Changes, OwnWrite, Take, Move}
 use Rattle.theory_causal.specs.Machine.{alone, writes, takes}
 use Rattle.theory_causal.specs.Invariants.{Moment, Shelf, Level, Pending, Sent, Answer, Slotted, Fine, Inv}
-use Rattle.theory_causal.specs.Invariants.Learned.{raised-grows, fresh-under, sent-merged, serve, good-stamp, spared-fresh}
-use Rattle.theory_causal.specs.Invariants.Learned.{shelf-learns, raised-knows, sent-raised}
+use Rattle.theory_causal.specs.Invariants.Learned.{raised-grows, fresh-under, sent-merged, serve, good-stamp, raised-knows, sent-raised}
 use Rattle.theory_causal.specs.Invariants.Passing.{taught, taught-grows, later}
 use Rattle.theory_causal.specs.Invariants.Steps.{here, spread, quietly}
 use Rattle.theory_causal.specs.Invariants.Shows.{shows}
 use Rattle.theory_causal.specs.Invariants.Stows.{Stowed, stows}
+use Rattle.theory_causal.proofs.Invariants.Learned.{spared-fresh, shelf-learns}
 
 module _ {W : Words} {M : Moment W} {S : State W} (I : Inv M S) where
   open M use {history as H, know, now as t, own}
