@@ -44,6 +44,7 @@ pub fn is_lost(kept: bool, learnt: Clock, x: Cell) -> bool
 }
 
 // What an own event changes: 0 nothing, 1 the desk asks, 2 it stores, 3 it gives up.
+#[tactic(auto, unfolding(desk::specs::Parts::change_of))]
 pub fn change_of(kept: bool, x: Cell, e: Event) -> u8
     ensures { result ≡ change_of kept x e }
 {
@@ -58,6 +59,7 @@ pub fn change_of(kept: bool, x: Cell, e: Event) -> u8
 }
 
 // The reply to it.
+#[tactic(auto, unfolding(desk::specs::Parts::own_reply))]
 pub fn own_reply(kept: bool, x: Cell, e: Event) -> Reply
     ensures { result ≡ own_reply kept x e }
 {
@@ -75,6 +77,7 @@ pub fn own_reply(kept: bool, x: Cell, e: Event) -> Reply
     }
 }
 
+#[tactic(auto, unfolding(desk::specs::Parts::read_reply))]
 fn read_reply(x: Cell) -> Reply
     ensures { result ≡ read_reply x }
 {
@@ -94,6 +97,7 @@ fn read_reply(x: Cell) -> Reply
     }
 }
 
+#[tactic(auto, unfolding(desk::specs::Parts::write_reply))]
 fn write_reply(kept: bool, word: u32) -> Reply
     ensures { result ≡ write_reply kept word }
 {
@@ -111,6 +115,7 @@ fn write_reply(kept: bool, word: u32) -> Reply
     }
 }
 
+#[tactic(auto, unfolding(clock::specs::Clock::raised))]
 fn next(clock: Clock, desk: usize) -> Clock
     requires { (desk < 8) × (number clock desk ≡ 4294967295 → ⊥) }
     ensures { result ≡ raised clock desk }
@@ -121,6 +126,7 @@ fn next(clock: Clock, desk: usize) -> Clock
 }
 
 // The request of a read or a write.
+#[tactic(auto, unfolding(desk::specs::Parts::asked_for))]
 fn asked_for(s: Seat, desk: usize, e: Event) -> Slot
     requires { (desk < 8) × (e.cell < 32) × (e.kind ≡ 2 → number s.clock desk ≡ 4294967295 → ⊥) × ((e.kind ≡ 1 → ⊥) → e.kind ≡ 2) }
     ensures { result ≡ asked_for s desk e }
@@ -365,6 +371,7 @@ pub fn dropped(count: u32) -> Reply
 }
 
 // The table's 8 and 10; 0 where neither applies.
+#[tactic(auto, unfolding(theory_refusals::specs::Refusals::first_of))]
 pub fn unplaced(n: Counts, e: Event) -> u32
     ensures { result ≡ first_of (place_lines n e) }
 {
@@ -428,6 +435,7 @@ pub fn refused_answer(code: u32) -> Answer
 }
 
 // A desk that asks (change 1) sends what stands in its slot.
+#[tactic(auto, unfolding(desk::specs::Parts::asked_message))]
 fn asked_message(change: u8, n: Counts, desk: u8, s: Slot) -> Message
     ensures { result ≡ asked_message change n desk s }
 {
@@ -446,6 +454,7 @@ fn asked_message(change: u8, n: Counts, desk: u8, s: Slot) -> Message
 }
 
 // To an own event; s is the seat afterwards.
+#[tactic(auto, unfolding(desk::specs::Parts::own_answer))]
 pub fn own_answer(kept: bool, x: Cell, e: Event, n: Counts, desk: u8, s: Seat) -> Answer
     ensures { result ≡ own_answer kept x e n desk s.slot }
 {

@@ -11,6 +11,7 @@ use desk::sound::{keeps, waits};
 use desk::{Event, Seat, Slot, Tray};
 
 // The first refusal from 11 on that applies, in the order of 01's table; 0 where none does. For the desk's events and the table's.
+#[tactic(auto, unfolding(desk::specs::Rules::seat_lines, theory_refusals::specs::Refusals::first_of))]
 pub fn seat_refusal(t: Tray, desk: u8, s: Seat, e: Event) -> u32
     requires { (desk < 8) × (t.counts.cells ≤ 32) }
     ensures { result ≡ first_of (seat_lines t desk s e) }
@@ -37,6 +38,7 @@ pub fn seat_refusal(t: Tray, desk: u8, s: Seat, e: Event) -> u32
     0
 }
 
+#[tactic(auto, unfolding(desk::specs::Desk::is_own))]
 pub fn is_own(e: Event) -> bool
     ensures { result ≡ is_own e }
 {
@@ -44,12 +46,14 @@ pub fn is_own(e: Event) -> bool
     (kind == 1) | (kind == 2) | (kind == 5)
 }
 
+#[tactic(auto, unfolding(desk::specs::Desk::is_asked))]
 fn is_asked(s: Slot) -> bool
     ensures { result ≡ is_asked s }
 {
     (s.kind == 1) | (s.kind == 2)
 }
 
+#[tactic(auto, unfolding(desk::specs::Desk::is_answered))]
 fn is_answered(s: Slot) -> bool
     ensures { result ≡ is_answered s }
 {

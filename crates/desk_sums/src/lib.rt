@@ -71,6 +71,7 @@ fn or_past(s: Clock, d: usize) -> u32
 }
 
 // A cell that is none of the tray's.
+#[tactic(auto, unfolding(crate::specs::Sums::rest_of, crate::specs::Sums::add_clock))]
 pub fn rest(s: Sum, x: Cell) -> Sum
     ensures { result ≡ rest_of s x }
 {
@@ -86,6 +87,7 @@ pub fn rest(s: Sum, x: Cell) -> Sum
 
 // A cell of the tray. A held one whose stamp is all zeros is added as one that is not held, so that its word must be 0. (`kept` is looked at only
 // where no stamp is held: a keeper's cells cost nothing.)
+#[tactic(auto, unfolding(crate::specs::Sums::add_kept, crate::specs::Sums::add_clock))]
 pub fn add_kept(s: Sum, kept: bool, x: Cell) -> Sum
     ensures { result ≡ add_kept s kept x }
 {
@@ -107,6 +109,7 @@ pub fn add_kept(s: Sum, kept: bool, x: Cell) -> Sum
 }
 
 // A clock that may be there, with any word; or that must be zero, with its word.
+#[tactic(auto, unfolding(crate::specs::Sums::add_clock))]
 fn add_clock(s: Sum, carried: bool, c: Clock, word: u32) -> Sum
     ensures { result ≡ add_clock s carried c word }
 {
@@ -126,6 +129,7 @@ fn add_clock(s: Sum, carried: bool, c: Clock, word: u32) -> Sum
     }
 }
 
+#[tactic(auto, unfolding(crate::specs::Sums::slot_bad))]
 fn slot_bad(there: bool, cells: u8, own: bool, s: Slot, served: bool) -> bool
     ensures { result ≡ slot_bad there cells own s served }
 {
@@ -136,6 +140,7 @@ fn slot_bad(there: bool, cells: u8, own: bool, s: Slot, served: bool) -> bool
 }
 
 // What a desk has beside its cells: whether the desk is there, the cell count, whether it keeps the cell that its slot names.
+#[tactic(auto, unfolding(crate::specs::Sums::add_seat))]
 pub fn add_seat(s: Sum, there: bool, cells: u8, own: bool, v: Seat) -> Sum
     ensures { result ≡ add_seat s there cells own v }
 {
@@ -190,6 +195,7 @@ pub fn sum_fits_in(s: Sum, n: Counts) -> bool
     sum_fits(s, n.desks)
 }
 
+#[tactic(auto, unfolding(crate::specs::Sums::sum_fits))]
 pub fn sum_fits(s: Sum, desks: u8) -> bool
     ensures { result ≡ sum_fits s desks }
 {
@@ -199,6 +205,7 @@ pub fn sum_fits(s: Sum, desks: u8) -> bool
 }
 
 // A record without its row, and the row's sum: whether the record is sound.
+#[tactic(auto, unfolding(crate::specs::Sums::record_fits))]
 pub fn record_fits(t: Tray, desk: u8, v: Seat, row: Sum) -> bool
     ensures { result ≡ record_fits t desk v row }
 {

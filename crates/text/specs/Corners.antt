@@ -2,7 +2,7 @@
 -- three numbers.
 -- Assumes nothing.
 use Rattle.std.specs.Prelude.{◌≡◌, refl, cond, ◌&&◌, List, [], ◌∷◌, ◌++◌, map, ℕ, leb, ltb, take}
-use Rattle.std.proofs.Math.Option.{Option·elim}
+use Rattle.std.proofs.Math.Option.{Option-elim}
 use Rattle.theory_lists.specs.Test.{every}
 use Rattle.text.specs.Number.{given, is_digit, value_from, starts_well, number_of, digits_within, decimal}
 use Rattle.text.specs.Line.{on_first, pieces, with_first, all_numbers, numbers_of, line_numbers, ended_lines, lines_of, joined, spaced, line_of, bad_line}
@@ -39,5 +39,5 @@ corners :
     × Says (49 ∷ 32 ∷ 49 ∷ 10 ∷ 48 ∷ 10 ∷ 49 ∷ 32 ∷ 48 ∷ 32 ∷ 48 ∷ 32 ∷ 48 ∷ 10 ∷ 48 ∷ 49 ∷ 10 ∷ 49 ∷ 32 ∷ 48 ∷ 32 ∷ 48 ∷ 32 ∷ 48 ∷ 10 ∷ [])
     (line_of (1 ∷ 0 ∷ 0 ∷ []) ++ bad_line 4)
 unfolding set_up event Says answer begun sized started run having others first lines_of ended_lines line_numbers numbers_of all_numbers with_first
-    pieces on_first number_of starts_well value_from is_digit given every line_of spaced joined bad_line decimal digits_within Option·elim
+    pieces on_first number_of starts_well value_from is_digit given every line_of spaced joined bad_line decimal digits_within Option-elim
 corners = (refl, refl, refl, refl, refl, refl, refl, refl)

@@ -3,7 +3,7 @@
 use Rattle.std.specs.Prelude.{◌≡◌, refl, false, ◌&&◌, List, [], ◌∷◌, ◌++◌, ℕ, suc, ◌+◌, ◌*◌, ◌≤◌, ◌<◌, ltb, leb, length, get_or, take, drop, replicate}
 use Rattle.std.proofs.Common.{sym, ◌∙◌, append_assoc, append-nil, add-one, arith}
 use Rattle.std.proofs.Math.Path.{ap}
-use Rattle.std.proofs.Math.Option.{Option, Option·elim}
+use Rattle.std.proofs.Math.Option.{Option, Option-elim}
 use Rattle.std.proofs.Math.Seq.{get_or-take, length-sets}
 use borrow.Author.Tests.{lt-ltb, le-ltb, le-leb, eq-eqb, ne_eqb}
 use Rattle.text.specs.Line.{lines_of, line_of, bad_line, too_long}
@@ -21,12 +21,12 @@ module _ {Table : Type 0} (set_up : ℕ → ℕ → List ℕ → ℕ × Table) (
 
   -- ---- line 1
   pub first-bad : ((line_at s at).count ≡ 2 → ⊥) → begun set_up event lines ≡ bad_line 1
-  unfolding begun Option·elim
+  unfolding begun Option-elim
   first-bad ne = rw (line_other s at 2 (omega arith) ne)
 
   pub first_read : (line_at s at).count ≡ 2
       → begun set_up event lines ≡ sized set_up event (get_or (line_at s at).n 0 0) (get_or (line_at s at).n 1 0) next
-  unfolding begun Option·elim
+  unfolding begun Option-elim
   first_read e =
       let r = line_read s at 2 (omega arith) e in
       rw
@@ -40,12 +40,12 @@ module _ {Table : Type 0} (set_up : ℕ → ℕ → List ℕ → ℕ × Table) (
 
   module _ (desks cells : ℕ) (some-cell : 0 < cells) (few : cells ≤ 32) where
     pub second-bad : ((line_at s at).count ≡ cells → ⊥) → sized set_up event desks cells lines ≡ bad_line 2
-    unfolding sized Option·elim
+    unfolding sized Option-elim
     second-bad ne = rw (lt-ltb 0 cells some-cell, le-leb cells 32 few, line_other s at cells few ne)
 
     pub second-read : (line_at s at).count ≡ cells
         → sized set_up event desks cells lines ≡ started set_up event (set_up desks cells (line_at s at).n) next
-    unfolding sized Option·elim
+    unfolding sized Option-elim
     second-read e =
         let r = line_read s at cells some-cell e in
         rw (lt-ltb 0 cells some-cell, le-leb cells 32 few, read_first s at r, read-others s at r, r.padded)
@@ -65,13 +65,13 @@ module _ {Table : Type 0} (set_up : ℕ → ℕ → List ℕ → ℕ × Table) (
     run_end h = ap (run set_up event t n) (lines_end s at h)
 
     pub run-bad : at < length s → ((line_at s at).count ≡ 4 → ⊥) → run set_up event t n lines ≡ bad_line n
-    unfolding run Option·elim
+    unfolding run Option-elim
     run-bad h ne = ap (run set_up event t n) (lines-some s at h) ∙ rw (line_other s at 4 (omega arith) ne)
 
     pub run-event : (line_at s at).count ≡ 4
         → run set_up event t n lines
         ≡ line_of (event t (take 4 (line_at s at).n)).0 ++ run set_up event (event t (take 4 (line_at s at).n)).1 (suc n) next
-    unfolding run Option·elim
+    unfolding run Option-elim
     run-event e = let r = line_read s at 4 (omega arith) e in ap (run set_up event t n) r.lines ∙ rw (read_has s at r)
 
 -- ---- a walk that has come to a place: what it has put so far, and what is left to answer

@@ -7,9 +7,9 @@ use mathlib.Core.List.{List, [], ◌∷◌, map}
 use native.Mathlib.Omega.{arith}
 use Prim.Native.Nat.{ℕ, ◌+◌, ◌*◌, ◌<◌}
 use seplogic.Ra.Ura.{Ura}
-use seplogic.Ra.TreeShare.{full_share}
+use base.Fraction.{full_share}
 use lib.ListN.{get_or, set}
-use mir.Syntax.{Name, Fn, Ty, Local, Place, named, mut, unsigned, w64, ty_int, ty_ptr, ty_unit, ty_ref, local, value_local}
+use mir.Syntax.{Callee as Name, Fn, Ty, Local, Place, named, mut, unsigned, w64, ty_int, ty_ptr, ty_unit, ty_ref, local, value_local}
 use mir.Syntax.{place, deref, copy, int, opd_unit, rv_opd, op2, mul, offset, addr_of, seq, assign, return}
 use mir.Raw.{raw as raw_ty}
 use mir.Val.{Val, vstruct, of_list}
@@ -69,6 +69,8 @@ module _ {R X : Plain} (p : Part R X) where
   get_fn = record {
     lifetimes = 1;
     outlives = [];
+    ty_params = [];
+    givens = 0;
     params = 1;
     locals = value (ty X) ∷ value (lent_ty R) ∷ [];
     body = seq (assign (place 0 []) (rv_opd (copy (place_in p)))) return;
@@ -78,6 +80,8 @@ module _ {R X : Plain} (p : Part R X) where
   set_fn = record {
     lifetimes = 1;
     outlives = [];
+    ty_params = [];
+    givens = 0;
     params = 2;
     locals = value ty_unit ∷ value (lent_ty R) ∷ value (ty X) ∷ [];
     body = seq (assign (place_in p) (rv_opd (copy (place 2 [])))) (seq (assign (place 0 []) (rv_opd opd_unit)) return);
@@ -88,6 +92,8 @@ module _ {R E : Plain} {n : ℕ} (r : Row R E n) where
   get_at_fn = record {
     lifetimes = 1;
     outlives = [];
+    ty_params = [];
+    givens = 0;
     params = 2;
     locals = value (ty E) ∷ value (lent_ty R) ∷ value (ty_int w64) ∷ value (ty_int w64) ∷ value ty_ptr ∷ value ty_ptr ∷ value (ty E) ∷ [];
     body =
@@ -103,6 +109,8 @@ module _ {R E : Plain} {n : ℕ} (r : Row R E n) where
   get_byte_fn = record {
     lifetimes = 1;
     outlives = [];
+    ty_params = [];
+    givens = 0;
     params = 2;
     locals = value (ty E) ∷ value (lent_ty R) ∷ value (ty_int w64) ∷ value ty_ptr ∷ value ty_ptr ∷ value (ty E) ∷ [];
     body =
@@ -117,6 +125,8 @@ module _ {R E : Plain} {n : ℕ} (r : Row R E n) where
   set_at_fn = record {
     lifetimes = 1;
     outlives = [];
+    ty_params = [];
+    givens = 0;
     params = 3;
     locals = value ty_unit ∷ value (lent_ty R) ∷ value (ty_int w64) ∷ value (ty E) ∷ value (ty_int w64) ∷ value ty_ptr ∷ value ty_ptr ∷ [];
     body =
@@ -132,6 +142,8 @@ module _ {R E : Plain} {n : ℕ} (r : Row R E n) where
   set_byte_fn = record {
     lifetimes = 1;
     outlives = [];
+    ty_params = [];
+    givens = 0;
     params = 3;
     locals = value ty_unit ∷ value (lent_ty R) ∷ value (ty_int w64) ∷ value (ty E) ∷ value ty_ptr ∷ value ty_ptr ∷ [];
     body =

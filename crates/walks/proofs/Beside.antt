@@ -3,15 +3,13 @@
 -- Assumes nothing.
 use mathlib.Core.Path.{◌≡◌, refl, sym, subst}
 use mathlib.Core.List.{List, [], ◌∷◌}
-use mathlib.Core.Option.{none}
-use mathlib.Core.Option as Opt
 use Prim.Native.Nat.{ℕ}
 use seplogic.Ra.Ura.{Ura}
-use mir.Syntax.{Name, Fn, Ty, Local, named, erased, imm, mut, ty_ref, local, value_local, place, deref, copy, addr_of, rv_opd, seq, assign, call, return}
+use mir.Syntax.{Callee as Name, Fn, Ty, Local, named, erased, imm, mut, ty_ref, local, value_local, place, deref, copy, addr_of, rv_opd, seq, assign, call, return}
 use mir.Raw.{raw as raw_ty}
 use mir.Val.{Val, vptr}
 use base.Logic.{SProp, ent, sep, ex, emp, guard, via, fst∗}
-use base.Fml.{GName, Lft, Share, Fml, fat, flft, ftrue, fres, fshr_bor}
+use base.Fml.{GName, Lft, Share, Fml, fat, flft, ftrue}
 use prog.Model.{Model}
 use prog.Routine.{Routine, Env as Routines}
 use prog.Wp.{Tables, WpFn, Closed}
@@ -21,14 +19,14 @@ use contract.Lifetimes.{Lfts}
 use contract.Monad.{fact, fact_i}
 use contract.Running.{Running, tables, tables_of}
 use types.Kit.{Item, ‵, mean, ⋆, nth, ◌⊛◌, Go, !, ◌$◌, ◌∵◌, qed, by, use0, move, keep, drop, split, join, done, frame, suffices, show, check}
-use types.Kit.{updating, fsplit3, fjoin, fjoin3, feq_i, now as at_once}
+use types.Kit.{updating, fsplit, fjoin, feq_i, now as at_once}
 use types.Part.{Part as Within, whole, look_in}
 use types.Run.{Reads, look, stop, hop, from, load, of_opd}
 use denote.Builtin.{RefOf, RefMutOf}
 use denote.Exit.{yes}
 use denote.Laws.{Is, shows}
-use denote.Memory.{part_at, pointee}
-use denote.Ref.{Bor, ShrRef, shr_vals, mut_Tells, shr_Tells}
+use denote.Memory.{pointee, hidden_shr}
+use denote.Ref.{Bor, ShrRef, shr_vals, mut_vals, mut_Tells, shr_Tells}
 use denote.Shadow.{makes_shadow}
 use denote.Signature.{plain}
 use denote.Steps.{looks, shuts, peeks, nothing}
@@ -42,14 +40,14 @@ use denote.Triple.Walked.{Stays, stay_ref, stay_none_ref, walk_of, Goes-ref, Goe
 use Rattle.walks.proofs.Access.{lent_ty}
 use Rattle.walks.proofs.Callees.{lent-does}
 use Rattle.walks.proofs.Element.{cooked}
-use Rattle.walks.proofs.Frame.{tys_of, Done, runs-opened}
+use Rattle.walks.proofs.Frame.{runs-opened}
 use Rattle.walks.proofs.Lent.{LentFn, LentMet, always, gives, W, 𝓣, ref, own-at, closed, beside}
-use Rattle.walks.proofs.Plain.{Plain, Of, Args, ty, val, own, coded, row_of, IsOf, has-type}
-use Rattle.walks.proofs.Shared.{shares, twice}
-use Rattle.walks.proofs.Walk.{◌⨟◌, Ok}
+use Rattle.walks.proofs.Plain.{Plain, Of, ty, val, own, row_of, IsOf, has-type}
+use Rattle.walks.proofs.Shared.{shares, copied}
+use Rattle.walks.proofs.Walk.{◌⨟◌}
 
 module _ (T U R : Plain) (res : Of T → Of U → Of R) (after : Of T → Of U → Of T) where
-  -- ---- the contract: `ensures { λ r. ⌜ (r ≡ res) × (now v.exit ≡ after) ⌝ }`, of the T at entry and of the U
+  -- ---- the contract: `ensures { (result ≡ res) × (v.new ≡ after) }`, of the T at entry and of the U
   abbrev both_ended : Ended
   both_ended = record {
     signature = record {
@@ -85,6 +83,8 @@ module _ (T U R : Plain) (res : Of T → Of U → Of R) (after : Of T → Of U �
   pass_fn g = record {
     lifetimes = 2;
     outlives = [];
+    ty_params = [];
+    givens = 0;
     params = 2;
     locals = value (ty R) ∷ value (lent_ty T) ∷ value shared_ty ∷ value again_ty ∷ value (ty U) ∷ [];
     body =
@@ -107,13 +107,13 @@ module _ (T U R : Plain) (res : Of T → Of U → Of R) (after : Of T → Of U �
     abbrev hs : Stays both_ended.signature.params both_ended.kept
     hs = (stay_ref (0 ∷ []) tt (plain (λ κs. row_of T)), (stay_none_ref (1 ∷ []) tt (plain (λ κs. row_of U)) yes, tt))
 
-    -- what is lent: of the T lifetime, share, place, name and value, and the same of the U
-    module _ (κ : Lft) (q : Share) (b o : ℕ) (γ : GName) (t : Of T) (κ₁ : Lft) (q₁ : Share) (b₁ o₁ : ℕ) (γ₁ : GName) (u : Of U) where
+    -- what is lent: of the T lifetime, share, place, name and value, and the same but the name of the U
+    module _ (κ : Lft) (q : Share) (b o : ℕ) (γ : GName) (t : Of T) (κ₁ : Lft) (q₁ : Share) (b₁ o₁ : ℕ) (u : Of U) where
       abbrev lfts : Lfts 2
       lfts = (κ, (κ₁, tt))
 
       abbrev shared : Bor (Of U)
-      shared = record { ref_ptr = (b₁, o₁); ghost_name = γ₁; now = u }
+      shared = record { ref_ptr = (b₁, o₁); now = u }
 
       abbrev args : Arguments both_ended.signature lfts
       args = (ref 𝓛 T κ q b o γ t, (shared, tt))
@@ -128,7 +128,7 @@ module _ (T U R : Plain) (res : Of T → Of U → Of R) (after : Of T → Of U �
       shr-own = (ShrRef (named 1) κ₁ (row_of U)).own_val shared (vptr b₁ o₁ ∷ [])
 
       abbrev opened : Share → List (Item 𝓤)
-      opened = shares 𝓛 U κ₁ q₁ b₁ o₁ γ₁ u
+      opened = shares 𝓛 U κ₁ q₁ b₁ o₁ u
 
       abbrev HeldAt : Share → Of T → SProp 𝓤
       HeldAt s t' = sep 𝓤 (mean 𝓛 (closed 𝓛 T κ q b o γ t')) (⋆ 𝓛 (opened s))
@@ -139,15 +139,14 @@ module _ (T U R : Plain) (res : Of T → Of U → Of R) (after : Of T → Of U �
       opens-it : ent 𝓤 Entry (H.⇛ (ex 𝓤 (λ (s : Share). guard 𝓤 (IsOf U u) (HeldAt s t))))
       opens-it =
           qed 𝓛 ((‵ (flft κ q) ⊛ (‵ (flft κ₁ q₁) ⊛ ‵ ftrue)) ∷ (‵ (own-at 𝓛 T κ q b o γ t) ⊛ (‵ shr-own ⊛ ‵ ftrue)) ∷ []) ∵ updating ! $
-          split ! $ move ! (2 ∷ []) $ split ! $ move ! (1 ∷ []) $ split ! $ move ! (4 ∷ []) $ split ! $ move ! (2 ∷ []) $ fsplit3 ! $ drop ! $
-          -- [the last value; the shared borrow; token 1; true; true; the reference; token 0]
-          move ! (1 ∷ 2 ∷ []) $
-          looks ! tt (row_of U) (Is (row_of U)) (shows 𝓛 (row_of U)) (λ x. val U x ∷ []) U.L.low-is (twice 𝓛 U) u b₁ o₁ (λ s vs.
+          split ! $ move ! (2 ∷ []) $ split ! $ move ! (1 ∷ []) $ split ! $ move ! (4 ∷ []) $ split ! $ move ! (2 ∷ []) $ fsplit ! $ drop ! $
+          -- [the shared borrow; token 1; true; true; the reference; token 0]
+          looks ! tt (row_of U) (copied 𝓛 U).opens u b₁ o₁ (λ s vs.
           spelt ! (row_of U) (Is (row_of U)) (shows 𝓛 (row_of U)) (λ x. val U x ∷ []) U.L.low-is s u vs b₁ o₁ $ move ! (1 ∷ []) $
           peeks ! (row_of U) (Is (row_of U)) (shows 𝓛 (row_of U)) u (val U u ∷ []) (λ is. at_once ! $
           show ! (λ (s' : Share). guard 𝓤 (IsOf U u) (HeldAt s' t)) s $ check ! is $
-          -- [what a U owns; the cell; what closes it; the shared borrow; the last value; true; true; the reference; token 0]
-          move ! (7 ∷ 8 ∷ []) $ join ! $ keep ! (0 ∷ 2 ∷ 1 ∷ 3 ∷ 4 ∷ 5 ∷ []) $ done !))
+          -- [what a U owns; the cell; what closes it; the shared borrow; true; true; the reference; token 0]
+          move ! (6 ∷ 7 ∷ []) $ join ! $ keep ! (0 ∷ 2 ∷ 1 ∷ 3 ∷ 4 ∷ []) $ done !))
 
       -- how the body ends
       abbrev Returns : Val → Of T → Type 2
@@ -158,13 +157,12 @@ module _ (T U R : Plain) (res : Of T → Of U → Of R) (after : Of T → Of U �
           qed 𝓛 (closed 𝓛 T κ q b o γ (after t u) ∷ opened s) ∵ updating ! $ move ! (1 ∷ 2 ∷ 3 ∷ []) $
           shuts ! tt (row_of U) s u (val U u ∷ []) b₁ o₁ $
           by ! (
-          qed 𝓛 (‵ (flft κ₁ q₁) ∷ closed 𝓛 T κ q b o γ (after t u) ∷ ‵ (fshr_bor κ₁ (λ p. part_at (row_of U) p u b₁ o₁)) ∷
-          ‵ (fres γ₁ ((coded U).code u)) ∷ []) ∵
+          qed 𝓛 (‵ (flft κ₁ q₁) ∷ closed 𝓛 T κ q b o γ (after t u) ∷ ‵ (hidden_shr (row_of U) κ₁ u b₁ o₁) ∷ []) ∵
           suffices ! _ (ends_at 𝓛 both_ended hs Cl bound (val R (res t u)) (res t u) (after t u, (tt, tt)) (tt, (tt, tt))) $
           suffices ! _ (beside 𝓤 _ (fact_i 𝓤 _ (emp 𝓤) (refl, refl))) $
           move ! (1 ∷ []) $ split ! $ nothing ! $ move ! (3 ∷ 0 ∷ []) $ join ! $ move ! (2 ∷ 0 ∷ []) $ join ! $ frame ! $
-          -- [the reference; the shared borrow; the last value]
-          feq_i ! (List Val) (vptr b₁ o₁ ∷ []) (vptr b₁ o₁ ∷ []) refl $ move ! (0 ∷ 3 ∷ 2 ∷ []) $ fjoin3 ! $
+          -- [the reference; the shared borrow]
+          feq_i ! (List Val) (vptr b₁ o₁ ∷ []) (vptr b₁ o₁ ∷ []) refl $ move ! (0 ∷ 2 ∷ []) $ fjoin ! $
           nothing ! $ move ! (1 ∷ 0 ∷ []) $ fjoin ! $ move ! (1 ∷ 0 ∷ []) $ fjoin ! $
           use0 𝓛 (‵ (own R (res t u) (val R (res t u) ∷ [])))
           (makes_shadow 𝓛 (own R (res t u) _) (R.facts (R.F.into (res t u)) _) is) $ move ! (1 ∷ 0 ∷ []) $ done !)
@@ -199,11 +197,11 @@ module _ (T U R : Plain) (res : Of T → Of U → Of R) (after : Of T → Of U �
 
       walks-it : Walks 𝓛 both_ended hs Run Cl
       walks-it =
-          walked 𝓛 both_ended hs Cl Run (λ κs. (shr_vals, (shr_vals, tt)))
+          walked 𝓛 both_ended hs Cl Run (λ κs. (mut_vals, (shr_vals, tt)))
           (λ κs. (mut_Tells (named 0) κs.0 (row_of T), (shr_Tells (named 1) κs.1.0 (row_of U), tt)))
           (λ κs qs bounds a g' are. via 𝓤 _ (fst∗ 𝓤 _ (emp 𝓤))
           (walk κs.0 qs.0 a.0.ref_ptr.0 a.0.ref_ptr.1 a.0.ghost_name a.0.now
-          κs.1.0 qs.1.0 a.1.0.ref_ptr.0 a.1.0.ref_ptr.1 a.1.0.ghost_name a.1.0.now Ts g met))
+          κs.1.0 qs.1.0 a.1.0.ref_ptr.0 a.1.0.ref_ptr.1 a.1.0.now Ts g met))
 
       meets-it : Meets 𝓛 both_ended.signature Run (closing 𝓛 both_ended Cl)
       meets-it =

@@ -6,11 +6,11 @@ use mathlib.Core.Path.{◌≡◌, sym, ap, subst, ◌∙◌}
 use mathlib.Core.List.{List, [], ◌∷◌}
 use Prim.Native.Nat.{ℕ}
 use seplogic.Ra.Ura.{Ura}
-use seplogic.Ra.TreeShare.{full_share}
-use mir.Syntax.{Name, named}
+use base.Fraction.{full_share}
+use mir.Syntax.{Callee as Name, named}
 use mir.Val.{Val, vptr}
 use base.Logic.{SProp, ent, sep, emp, guard, via, id⊢, ex_e, fst∗, snd∗, guard_i}
-use base.Fml.{GName, Lft, Share, Fml, flft, ftrue, fres}
+use base.Fml.{GName, Lft, Share, Fml, flft, ftrue, fres, fbor}
 use prog.Wp.{Tables}
 use prog.Model.{Model}
 use prog.Routine.{Routine, Env as Routines}
@@ -20,9 +20,11 @@ use contract.Monad.{fact, fact_use}
 use contract.Running.{Running, tables_of}
 use types.Kit.{Item, ‵, raw, some, later, given, mean, ◌⊛◌, !, ◌$◌, ◌∵◌, qed, by, use0, use1, use2, use3, await, learn, move, keep}
 use types.Kit.{drop, split, join, pick, done, check, updating, fjoin, now as at_once}
+use types.SemTy.{Body}
 use types.Tokens.{lft_new, lft_end}
 use denote.Laws.{Is, shows}
 use denote.Lend.{LentAgain, lends_again, comes_back}
+use denote.Memory.{mem}
 use denote.RattleType.{owns}
 use denote.Signature.{types_at}
 use denote.Steps.{only, facts, nothing, heard}
@@ -113,12 +115,15 @@ module _ {M : Type 1} {𝓤 : Ura M} (𝓛 : Logic 𝓤) (Ts : Tables 𝓤 𝓛.
       told α δ r = ex_e 𝓤 _ (λ ws.
           let P : SProp 𝓤 = A.res δ ((coded T).code ws.0) in
           let N : SProp 𝓤 = sem 𝓛 (lasts_of {n = 1} (α ∷ [], tt) (slots 1 F.Ps) _ (to 1 (α ∷ [], tt) F.Ps a) ws.1) in
-          let L : SProp 𝓤 = sep 𝓤 P N in
+          -- what is left of the reference: the contract speaks of the first alone
+          let B : SProp 𝓤 = sem 𝓛 (fbor (α ∷ []) (Body (mem (row_of T)) b o δ)) in
+          let L : SProp 𝓤 = sep 𝓤 (sep 𝓤 P B) N in
           let φ : Type 0 = F.ens t (fro 1 (α ∷ [], tt) F.Ps (to 1 (α ∷ [], tt) F.Ps a)) r ws.0 in
           fact_use 𝓤 φ (snd∗ 𝓤 L (fact 𝓤 φ)) (λ e.
           let s = F.says t a r ws.0 (subst (λ (x : Args F.Ps). F.ens t x r ws.0) (fro-to 1 (α ∷ [], tt) F.Ps a) e) in
           subst (λ (u : Of T). ent 𝓤 (sep 𝓤 L (fact 𝓤 φ)) (guard 𝓤 (r ≡ F.res t a) (A.res δ ((coded T).code u)))) s.1
-          (via 𝓤 L (fst∗ 𝓤 L (fact 𝓤 φ)) (via 𝓤 P (fst∗ 𝓤 P N) (guard_i 𝓤 (r ≡ F.res t a) P s.0)))))
+          (via 𝓤 L (fst∗ 𝓤 L (fact 𝓤 φ)) (via 𝓤 (sep 𝓤 P B) (fst∗ 𝓤 (sep 𝓤 P B) N)
+          (via 𝓤 P (fst∗ 𝓤 P B) (guard_i 𝓤 (r ≡ F.res t a) P s.0))))))
 
       abbrev After : Val → SProp 𝓤
       After r = guard 𝓤 ((r ≡ val F.R (F.res t a)) × IsOf F.R (F.res t a)) (mean 𝓛 (closed 𝓛 T κ q b o γ (F.after t a)))

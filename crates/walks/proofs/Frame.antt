@@ -7,7 +7,7 @@ use mathlib.Core.Option as Opt
 use mathlib.Core.List.{List, [], ◌∷◌, ◌++◌}
 use Prim.Native.Nat.{ℕ, zero}
 use seplogic.Ra.Ura.{Ura}
-use seplogic.Ra.TreeShare.{full_share}
+use base.Fraction.{full_share}
 use mir.Syntax.{Fn, Ty, Local, local}
 use mir.Val.{Val}
 use base.Logic.{SProp, ent, sep, wand, ex, emp, guard, via, assoc∗, mono_l, mono_r, all_i, ex_i, wand_i, guard_i, emp∗, snd∗}
@@ -138,7 +138,7 @@ module _ {M : Type 1} {𝓤 : Ura M} (𝓛 : Logic 𝓤) where
       ends Fin Kf fin (exits n) s k = elim k [ ]
       ends Fin Kf fin returns s k =
           let L : SProp 𝓤 = sep 𝓤 (Stars 𝓛 (cells 𝓛 τs bs s.1)) (Stars 𝓛 (dies 𝓛 τs bs)) in
-          (look {K = Go {0}} {W = 𝓛} {Γ = Context 𝓛 𝓣 D item fr τs bs s} ! 1
+          (look {𝓛 = 𝓛} {K = Go {0}} {Γ = Context 𝓛 𝓣 D item fr τs bs s} ! 1
           (cell-at 𝓛 τs bs s.1 (dies 𝓛 τs bs ++ fr) zero (one k) (one (two k)))).go
           (λ r. release 𝓤 H (env 𝓛 τs bs) (Kf r))
           (via 𝓤 (sep 𝓤 L (Held s.0)) (takes_out s.0 s.1)

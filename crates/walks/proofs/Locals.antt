@@ -7,7 +7,7 @@ use mathlib.Core.Option as Opt
 use mathlib.Core.List.{List, [], ◌∷◌, ◌++◌}
 use Prim.Native.Nat.{ℕ, zero, suc}
 use seplogic.Ra.Ura.{Ura}
-use seplogic.Ra.TreeShare.{full_share}
+use base.Fraction.{full_share}
 use lib.Dec.{T}
 use lib.ListN.{get_or}
 use mir.Syntax.{Ty, ty_enum, ttnil}

@@ -9,11 +9,11 @@ use mathlib.Core.Option as Opt
 use mathlib.Core.List.{List, [], ◌∷◌, ◌++◌}
 use Prim.Native.Nat.{ℕ, zero, suc, ◌^◌}
 use seplogic.Ra.Ura.{Ura}
-use seplogic.Ra.TreeShare.{full_share}
+use base.Fraction.{full_share}
 use lib.Dec.{T, ltb}
 use lib.ListN.{get_or}
-use mir.Syntax.{Name, Fn, Ty, named, place, addr_of, Body, seq, assign, call}
-use mir.Syntax.{Opd as Operand, copy, int, int_neg, int_big, float, opd_true, opd_false, opd_unit, ptr_const}
+use mir.Syntax.{Callee as Name, Fn, Ty, named, place, addr_of, Body, seq, assign, call}
+use mir.Syntax.{Opd as Operand, copy, int, int_neg, int_big, float, opd_true, opd_false, opd_unit, ptr_const, size_of, align_of, num_of, fn_addr, vtable}
 use mir.Raw.{raw as raw_ty}
 use mir.Val.{Val, vunit, vbool, vint, vptr, bits}
 use base.Logic.{SProp, ent, sep, emp, guard, via, id⊢, mono_r, emp∗, snd∗, guard_i}
@@ -168,6 +168,11 @@ module _ {M : Type 1} {𝓤 : Ura M} (𝓛 : Logic 𝓤) (𝓣 : Tables 𝓤 �
   OpdOk ls opd_false K = K (vbool false)
   OpdOk ls opd_unit K = K vunit
   OpdOk ls (ptr_const n) K = Stuck
+  OpdOk ls (size_of τ) K = Stuck
+  OpdOk ls (align_of τ) K = Stuck
+  OpdOk ls (num_of w τ) K = Stuck
+  OpdOk ls (fn_addr c ς) K = Stuck
+  OpdOk ls (vtable τ ss) K = Stuck
 
   abbrev pub OpdsOk : Locals → List Operand → (List Val → Type 2) → Type 2
   OpdsOk ls [] K = K []
@@ -213,6 +218,11 @@ module _ {M : Type 1} {𝓤 : Ura M} (𝓛 : Logic 𝓤) (𝓣 : Tables 𝓤 �
       opd-of opd_false K k = (vbool false, (λ I. false_lit !), k)
       opd-of opd_unit K k = (vunit, (λ I. unit_lit !), k)
       opd-of (ptr_const n) K k = elim k [ ]
+      opd-of (size_of τ) K k = elim k [ ]
+      opd-of (align_of τ) K k = elim k [ ]
+      opd-of (num_of w τ) K k = elim k [ ]
+      opd-of (fn_addr c ς) K k = elim k [ ]
+      opd-of (vtable τ ss) K k = elim k [ ]
 
       opds-of : (xs : List Operand) (K : List Val → Type 2) → OpdsOk (hide ls j) xs K
           → (vs : List Val) × ((I : Item 𝓤) → Opds (Go {0}) 𝓛 (Away j ls I) (env 𝓛 τs bs) xs vs) × K vs

@@ -1,6 +1,6 @@
 -- Plain types, of which what is owned are facts only: numbers, bools, `()`, structs, and arrays as parts of structs. A plain type is a field
--- of the logic (`denote.Struct.Field`) with its laws, so that a struct's parts are plain types of the same kind as the struct. Then lists of
--- plain parameters, as a signature and a call have them.
+-- of the logic (`denote.Struct.Field`) with its laws, those of a `&` to it among them (`copy`), so that a struct's parts are plain types of the
+-- same kind as the struct. Then lists of plain parameters, as a signature and a call have them.
 -- Assumes nothing.
 use mathlib.Core.Path.{◌≡◌, refl, ap, subst}
 use mathlib.Core.List.{List, [], ◌∷◌, ◌++◌}
@@ -16,7 +16,9 @@ use contract.Lifetimes.{Lfts}
 use denote.Exit.{yes, unchanged}
 use denote.Laws.{Typed, Is, Ises, Are, Tellss, Spells, valss}
 use denote.Memory.{lone}
-use denote.Plain.{uint_Tells, uint_Lawful}
+use denote.Param.Drops.{still_Drops}
+use denote.Copied.{uint_Copied}
+use denote.Plain.{uint_Tells, uint_Lawful, uint_copy, uint_row_laws}
 use denote.RattleType.{RattleType, Denots, Valss, owns, flat}
 use denote.Shadow.{makes_shadow}
 use denote.Signature.{Slot, plain, types_at}
@@ -34,6 +36,7 @@ pub record Plain : Type 2 where
   pub F : Field
   pub L : LL.FLaws F
   pub facts : LL.Plain F
+  pub copy : LL.Copyable F
   pub one : F.row.mir ≡ lone F.row.mir ∷ []
 
 -- its values, their machine type, a value's machine value, and that a value is one that the type can have
@@ -62,9 +65,11 @@ row_of P = record {
   mir = ty P ∷ [];
   written = P.F.row.written;
   reaches = P.F.row.reaches;
+  lives = P.F.row.lives;
   own_val = own P;
   exit = λ k. unchanged;
   coded = coded P;
+  shr_at = λ x. P.F.row.shr_at (P.F.into x);
 }
 
 pub has-type : {M : Type 1} {𝓤 : Ura M} (𝓛 : Logic 𝓤) (P : Plain) (x : Of P) → IsOf P x → HasType (ty P) (val P x)
@@ -78,16 +83,32 @@ at-val P x vs is = subst (Is P.F.row (P.F.into x)) (P.L.low-is x vs is) is
 abbrev pub number : Width → Plain
 number w = record {
   F = uint_field w;
-  L = record { val = vint w; tells = uint_Tells w; low = vint w; low-is = uint_Tells w; lawful = λ 𝓛. uint_Lawful 𝓛 w };
+  L = record {
+    val = vint w;
+    tells = uint_Tells w;
+    low = vint w;
+    low-is = uint_Tells w;
+    lawful = λ 𝓛. uint_Lawful 𝓛 w;
+    drops = λ 𝓛. still_Drops 𝓛 (uint_field w).row (λ k. refl);
+  };
   facts = λ n vs. (tt, tt);
+  copy = record {
+    val = vint w;
+    tells = uint_Tells w;
+    copies = λ M 𝓤 𝓛. uint_copy 𝓛 w;
+    still = λ k. refl;
+    alone = refl;
+    copied = λ M 𝓤 𝓛. uint_Copied 𝓛 w;
+    shr_laws = uint_row_laws w;
+  };
   one = refl;
 }
 
 abbrev pub boolean : Plain
-boolean = record { F = bool-field; L = LL.bool-laws; facts = LL.bool-plain; one = refl }
+boolean = record { F = bool-field; L = LL.bool-laws; facts = LL.bool-plain; copy = LL.bool-copy; one = refl }
 
 abbrev pub unit : Plain
-unit = record { F = unit-field; L = LL.unit-laws; facts = LL.unit-plain; one = refl }
+unit = record { F = unit-field; L = LL.unit-laws; facts = LL.unit-plain; copy = LL.unit-copy; one = refl }
 
 -- a declared struct as its generated modules have it, and that its ghost fields ask nothing
 pub record Form : Type 2 where
@@ -96,27 +117,35 @@ pub record Form : Type 2 where
   pub laws : LL.Laws (declared N props)
   pub lowers : LL.Lowered (declared N props)
   pub facts : Plains (fields (declared N props))
+  pub copies : LL.Copyables N.parts
   pub same : (d : N.D) → lowers.lowered d ≡ vstruct (of_list (LL.lows N.parts laws (N.as_values d)))
   pub free : (v : Values N.parts) → N.Ghost v
 
--- of T: `form T.struct T.propositions T'.the_laws T'.lowers T'.the_plain (λ d. refl) (λ v. tt)`, with T' its module `Laws`
+-- of T: `form T.struct T.the_propositions T'.the_laws T'.lowers T'.the_plain T'.the_copy (λ d. refl) (λ v. tt)`, with T' its module `TheLaws`
 abbrev pub form : (N : Record) (props : Propositions N) (laws : LL.Laws (declared N props)) (lowers : LL.Lowered (declared N props))
-    → Plains (fields (declared N props))
+    → Plains (fields (declared N props)) → LL.Copyables N.parts
     → ((d : N.D) → lowers.lowered d ≡ vstruct (of_list (LL.lows N.parts laws (N.as_values d)))) → ((v : Values N.parts) → N.Ghost v) → Form
-form N props laws lowers facts same free =
-    record { N = N; props = props; laws = laws; lowers = lowers; facts = facts; same = same; free = free }
+form N props laws lowers facts copies same free =
+    record { N = N; props = props; laws = laws; lowers = lowers; facts = facts; copies = copies; same = same; free = free }
 
 abbrev pub struct : Form → Plain
 struct S = record {
   F = field (declared S.N S.props);
   L = LL.field_laws (declared S.N S.props) S.laws S.lowers;
   facts = LL.field_plain (declared S.N S.props) S.facts;
+  copy = LL.field_copy (declared S.N S.props) S.copies;
   one = refl;
 }
 
 -- only as a part of a struct: an array that is a parameter itself is spelled otherwise in its signature
 abbrev pub array : Plain → ℕ → Plain
-array E n = record { F = array_field E.F n; L = LL.array_laws E.F E.L n; facts = LL.array_plain E.F E.facts n; one = refl }
+array E n = record {
+  F = array_field E.F n;
+  L = LL.array_laws E.F E.L n;
+  facts = LL.array_plain E.F E.facts n;
+  copy = LL.array_copy E.F E.copy n;
+  one = refl;
+}
 
 -- ---- a list of plain parameters
 abbrev pub Args : List Plain → Type 0

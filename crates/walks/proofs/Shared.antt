@@ -2,18 +2,18 @@
 -- first and then plain values: `fn write(m: &T, out: &mut [E]) -> R { covered(out, m.x, m.y, ..) }`. It may branch before. `sharing` is what its own proof cites,
 -- `handed` what it cites of the function that it calls, and `part-read` how a part of the T is read.
 -- Assumes nothing.
-use mathlib.Core.Path.{◌≡◌, refl, sym, subst}
+use mathlib.Core.Path.{◌≡◌, refl, sym, ap, subst}
 use mathlib.Core.List.{List, [], ◌∷◌}
 use mathlib.Core.Option.{Option, none}
 use mathlib.Core.Option as Opt
 use Prim.Native.Nat.{ℕ}
 use seplogic.Ra.Ura.{Ura}
 use lib.ListN.{length}
-use mir.Syntax.{Name, Fn, Ty, named, imm, mut, ty_ref, place, deref, copy, rv_opd}
+use mir.Syntax.{Callee as Name, Fn, Ty, named, imm, mut, ty_ref, place, deref, copy, rv_opd}
 use mir.Raw.{raw as raw_ty}
 use mir.Val.{Val, vptr}
 use base.Logic.{SProp, ent, sep, ex, emp, guard, via, id⊢, fst∗, ex_e, guard_i}
-use base.Fml.{GName, Lft, Share, Fml, fat, fsep, feq, flft, ftrue, fres, fobor, fshr_bor}
+use base.Fml.{GName, Lft, Share, Fml, fat, fsep, feq, flft, ftrue, fbor}
 use prog.Model.{Model}
 use prog.Routine.{Routine, Env as Routines}
 use prog.Wp.{Env, Tables, WpFn, Closed, spot_of}
@@ -23,18 +23,22 @@ use contract.Lifetimes.{Lfts}
 use contract.Monad.{fact, fact_i}
 use contract.Running.{Running, tables, tables_of}
 use types.Kit.{Item, ‵, raw, some, later, given, mean, ⋆, nth, ◌⊛◌, Go, !, ◌$◌, ◌∵◌, qed, by, use0, use1, await, pick, learn, move, keep, drop}
-use types.Kit.{split, join, done, frame, suffices, show, check, updating, fsplit, fsplit3, fjoin, fjoin3, feq_i, feq_l, now as at_once}
+use types.Kit.{split, join, done, frame, suffices, show, check, updating, fsplit, fjoin, feq_i, feq_l, now as at_once}
 use types.Part.{Part as Within, whole, look_in}
+use types.Hole.{Holey}
 use types.Run.{Reads, Rv, stop, hop, from, load, of_opd}
+use types.SemTy.{Body, Arr}
 use denote.Builtin.{RefOf, SliceRefMutOf}
-use denote.Exit.{yes}
+use denote.Copied.{Copied, Copied-at, Recorded-Copied}
+use denote.Exit.{yes, unchanged}
 use denote.Laws.{Is, Copy, shows}
-use denote.Memory.{part_at, pointee}
+use denote.Memory.{part_at, pointee, mem, raw_all, hidden_shr}
+use denote.Opens.{Shut}
 use denote.RattleType.{owns}
-use denote.Ref.{Bor, ShrRef, shr_vals, shr_Tells}
+use denote.Ref.{Bor, MutBor, ShrRef, shr_vals, shr_Tells}
 use denote.Shadow.{makes_shadow, pure_l, pure_i}
 use denote.Signature.{plain, types_at}
-use denote.Slice.{MutSlice, Room, finally, slice_ty, slice_val, shr_slice_vals, mut_slice_Tells}
+use denote.Slice.{MutSlice, Room, finally, slice_ty, slice_val, mut_slice_vals, mut_slice_Tells}
 use denote.Steps.{looks, shuts, peeks, facts, heard, nothing}
 use denote.Struct.Steps.{spelt}
 use denote.Triple.Clauses.{Clauses, Ended, closing, ensured}
@@ -50,12 +54,12 @@ use Rattle.walks.proofs.Frame.{tys_of, Done, runs-opened}
 use Rattle.walks.proofs.Lent.{W, 𝓣, beside}
 use Rattle.walks.proofs.Locals.{HasType}
 use Rattle.walks.proofs.Parts.{Part}
-use Rattle.walks.proofs.Plain.{Plain, Of, ty, val, own, coded, row_of, IsOf, has-type, Args, AreOf, vals, slots, kepts, to, fro}
+use Rattle.walks.proofs.Plain.{Plain, Of, ty, val, own, row_of, IsOf, has-type, Args, AreOf, vals, slots, kepts, to, fro}
 use Rattle.walks.proofs.Plain.{fro-to, vss, flat-is, owns-all}
 use Rattle.walks.proofs.Walk.{Then, one, two, Stuck, Callee, Does, Ok}
 
 -- ---- what the two functions do. Neither asks anything
--- over a `&T` and a `&mut [E]`: `ensures { λ r. ⌜ ens ⌝ }`, of the T, the list at entry, the result and the list at exit
+-- over a `&T` and a `&mut [E]`: `ensures { ens }`, of the T, the list at entry, the result and the list at exit
 pub record SharedFn (T E : Plain) : Type 2 where
   pub R : Plain
   pub ens : Of T → List (Of E) → Of R → List (Of E) → Type 0
@@ -114,13 +118,12 @@ module _ {E : Plain} (F : SliceFn E) where
   abbrev pub SliceMet : {M : Type 1} {𝓤 : Ura M} (𝓛 : Logic 𝓤) → Contract 𝓤
   SliceMet {𝓤 = 𝓤} 𝓛 = triple_of 𝓛 slice_ended.signature (closing 𝓛 slice_ended (slice_clauses 𝓤))
 
--- ---- what is lent: lifetime, share, place, name and value of each reference
+-- ---- what is lent: lifetime, share, place and value of each reference, and the name of the slice
 pub record Lending (T E : Plain) : Type 0 where
   pub κ₀ : Lft
   pub q₀ : Share
   pub b₀ : ℕ
   pub o₀ : ℕ
-  pub γ₀ : GName
   pub t : Of T
   pub κ₁ : Lft
   pub q₁ : Share
@@ -130,11 +133,11 @@ pub record Lending (T E : Plain) : Type 0 where
   pub xs : List (Of E)
 
 -- a share of the memory behind a `&`, with what closes it again, and what is had of the `&` at the end
-abbrev pub shares : {M : Type 1} {𝓤 : Ura M} (𝓛 : Logic 𝓤) (T : Plain) (κ : Lft) (q₀ : Share) (b o : ℕ) (γ : GName) → Of T → Share
+abbrev pub shares : {M : Type 1} {𝓤 : Ura M} (𝓛 : Logic 𝓤) (T : Plain) (κ : Lft) (q₀ : Share) (b o : ℕ) → Of T → Share
     → List (Item 𝓤)
-shares 𝓛 T κ q₀ b o γ t q =
-    ‵ (fat q (raw_ty (ty T)) b o (val T t)) ∷ ‵ (own T t (val T t ∷ [])) ∷ ‵ (fobor κ q₀ (part_at (row_of T) q t b o)) ∷
-    ‵ (fshr_bor κ (λ s. part_at (row_of T) s t b o)) ∷ ‵ (fres γ ((coded T).code t)) ∷ []
+shares 𝓛 T κ q₀ b o t q =
+    ‵ (fat q (raw_ty (ty T)) b o (val T t)) ∷ ‵ (own T t (val T t ∷ [])) ∷ Shut 𝓛 κ q₀ (part_at (row_of T) q t b o) ∷
+    ‵ (hidden_shr (row_of T) κ t b o) ∷ []
 
 -- what is plain can be had twice
 pub twice : {M : Type 1} {𝓤 : Ura M} (𝓛 : Logic 𝓤) (T : Plain) → Copy 𝓛 (row_of T)
@@ -143,15 +146,36 @@ twice 𝓛 T = record {
       pure_i ! (own T x vs) (T.facts (T.F.into x) vs) p $ done !);
 }
 
+-- so what a `&` to it has is opened, and gives a share of its memory
+pub copied : {M : Type 1} {𝓤 : Ura M} (𝓛 : Logic 𝓤) (T : Plain) → Copied 𝓛 (row_of T)
+copied {M} {𝓤} 𝓛 T =
+    let R = T.F.row in
+    Recorded-Copied 𝓛 (record {
+      Denot = R.Denot;
+      mir = ty T ∷ [];
+      written = R.written;
+      reaches = R.reaches;
+      lives = R.lives;
+      own_val = R.own_val;
+      exit = λ k. unchanged;
+      coded = R.coded;
+      shr_at = R.shr_at;
+    }) (Of T) T.F.into T.F.into_one
+    (Copied-at 𝓛 R (ty T ∷ []) R.written R.reaches R.lives (λ k. unchanged) (ap raw_all T.one) (T.copy.copied M 𝓤 𝓛))
+
 module _ {M : Type 1} {𝓤 : Ura M} (𝓛 : Logic 𝓤) {T E : Plain} (ℓ : Lending T E) where
   abbrev shared : Bor (Of T)
-  shared = record { ref_ptr = (ℓ.b₀, ℓ.o₀); ghost_name = ℓ.γ₀; now = ℓ.t }
+  shared = record { ref_ptr = (ℓ.b₀, ℓ.o₀); now = ℓ.t }
 
-  abbrev out : Bor (List (Of E))
+  abbrev out : MutBor (List (Of E))
   out = record { ref_ptr = (ℓ.b₁, ℓ.o₁); ghost_name = ℓ.γ₁; now = ℓ.xs }
 
   abbrev slice_of : Val
   slice_of = slice_val (ℓ.b₁, ℓ.o₁) (length ℓ.xs)
+
+  -- what is left of the slice once it has been handed on: what says its last list, and its borrow
+  abbrev pub final : List (Of E) → Fml
+  final ys = fsep (finally (row_of E) ℓ.γ₁ ys) (fbor ℓ.κ₁ (Body (Arr (Holey (mem (row_of E))) (length ℓ.xs)) ℓ.b₁ ℓ.o₁ ℓ.γ₁))
 
   -- the slice, until it is handed on; and then what says its last list
   abbrev pub Kept : Type 0
@@ -159,10 +183,10 @@ module _ {M : Type 1} {𝓤 : Ura M} (𝓛 : Logic 𝓤) {T E : Plain} (ℓ : Le
 
   abbrev pub kept : Kept → Item 𝓤
   kept none = ‵ ((MutSlice (named 1) ℓ.κ₁ (row_of E)).own_val out (slice_of ∷ [])) ⊛ ‵ (flft ℓ.κ₁ ℓ.q₁)
-  kept (Opt.some ys) = ‵ (finally (row_of E) ℓ.γ₁ ys) ⊛ ‵ (flft ℓ.κ₁ ℓ.q₁)
+  kept (Opt.some ys) = ‵ (final ys) ⊛ ‵ (flft ℓ.κ₁ ℓ.q₁)
 
   abbrev pub opened : Share → List (Item 𝓤)
-  opened = shares 𝓛 T ℓ.κ₀ ℓ.q₀ ℓ.b₀ ℓ.o₀ ℓ.γ₀ ℓ.t
+  opened = shares 𝓛 T ℓ.κ₀ ℓ.q₀ ℓ.b₀ ℓ.o₀ ℓ.t
 
 -- a part of the T, which lies at the n-th place of the context: with m locals it is 2 * m + 1
 reads-shared : {M : Type 1} {𝓤 : Ura M} (𝓛 : Logic 𝓤) {T X : Plain} (p : Part T X) (t : Of T) {q : Share} {b o : ℕ}
@@ -223,7 +247,7 @@ module _ {M : Type 1} {𝓤 : Ura M} (𝓛 : Logic 𝓤) (Ts : Tables 𝓤 𝓛.
         use0 𝓛 (raw (emp 𝓤)) (id⊢ 𝓤 (emp 𝓤)) $ move ! (1 ∷ 0 ∷ []) $ done !
 
     abbrev Final : List (Of E) → Fml
-    Final ys = finally (row_of E) ℓ.γ₁ ys
+    Final ys = final 𝓛 ℓ ys
 
     abbrev end : List (Of E)
     end = F.after ℓ.xs a
@@ -249,9 +273,11 @@ module _ {M : Type 1} {𝓤 : Ura M} (𝓛 : Logic 𝓤) (Ts : Tables 𝓤 𝓛.
     told r = ex_e 𝓤 _ (λ ws.
         let ys : List (Of E) = ws.0 in
         let φ : Type 0 = F.ens ℓ.xs (fro 1 κs F.Ps (to 1 κs F.Ps a)) r ys in
+        let Says : Fml = finally (row_of E) ℓ.γ₁ ys in
+        let Back : Fml = fbor ℓ.κ₁ (Body (Arr (Holey (mem (row_of E))) (length ℓ.xs)) ℓ.b₁ ℓ.o₁ ℓ.γ₁) in
         let N : Fml = lasts_of {n = 1} κs (slots 1 F.Ps) _ (to 1 κs F.Ps a) ws.1 in
-        qed 𝓛 (‵ (fsep (fsep (Final ys) (feq ℕ (length ys) (length ℓ.xs))) N) ∷ raw (fact 𝓤 φ) ∷ []) ∵ move ! (1 ∷ []) $ heard ! φ (λ e.
-        fsplit ! $ fsplit ! $ move ! (1 ∷ []) $ feq_l ! (λ l. keep ! (0 ∷ []) $
+        qed 𝓛 (‵ (fsep (fsep (fsep Says (feq ℕ (length ys) (length ℓ.xs))) Back) N) ∷ raw (fact 𝓤 φ) ∷ []) ∵ move ! (1 ∷ []) $ heard ! φ (λ e.
+        fsplit ! $ fsplit ! $ fsplit ! $ move ! (1 ∷ []) $ feq_l ! (λ l. keep ! (0 ∷ 1 ∷ []) $ fjoin ! $
         by ! (ends_as r ys (subst (λ (x : Args F.Ps). F.ens ℓ.xs x r ys) (fro-to 1 κs F.Ps a) e) l))))
 
     abbrev After : Val → SProp 𝓤
@@ -324,15 +350,15 @@ module _ {M : Type 1} {𝓤 : Ura M} (𝓛 : Logic 𝓤) {T E : Plain} (F : Shar
     opens-it : ent 𝓤 Entry (H.⇛ (ex 𝓤 (λ (q : Share). guard 𝓤 (IsOf T ℓ.t) (HeldAt q none))))
     opens-it =
         qed 𝓛 ((‵ (flft ℓ.κ₀ ℓ.q₀) ⊛ (‵ (flft ℓ.κ₁ ℓ.q₁) ⊛ ‵ ftrue)) ∷ (‵ shr-own ⊛ (‵ slice-own ⊛ ‵ ftrue)) ∷ []) ∵ updating ! $
-        split ! $ move ! (2 ∷ []) $ split ! $ move ! (1 ∷ []) $ split ! $ move ! (4 ∷ []) $ split ! $ move ! (4 ∷ []) $ fsplit3 ! $ drop ! $
-        -- [the last value; the shared borrow; token 1; true; the slice; true; token 0]
-        move ! (1 ∷ 6 ∷ []) $
-        looks ! tt (row_of T) (Is (row_of T)) (shows 𝓛 (row_of T)) (λ x. val T x ∷ []) T.L.low-is (twice 𝓛 T) ℓ.t ℓ.b₀ ℓ.o₀ (λ q vs.
+        split ! $ move ! (2 ∷ []) $ split ! $ move ! (1 ∷ []) $ split ! $ move ! (4 ∷ []) $ split ! $ move ! (4 ∷ []) $ fsplit ! $ drop ! $
+        -- [the shared borrow; token 1; true; the slice; true; token 0]
+        move ! (0 ∷ 5 ∷ []) $
+        looks ! tt (row_of T) (copied 𝓛 T).opens ℓ.t ℓ.b₀ ℓ.o₀ (λ q vs.
         spelt ! (row_of T) (Is (row_of T)) (shows 𝓛 (row_of T)) (λ x. val T x ∷ []) T.L.low-is q ℓ.t vs ℓ.b₀ ℓ.o₀ $ move ! (1 ∷ []) $
         peeks ! (row_of T) (Is (row_of T)) (shows 𝓛 (row_of T)) ℓ.t (val T ℓ.t ∷ []) (λ is. at_once ! $
         show ! (λ (q' : Share). guard 𝓤 (IsOf T ℓ.t) (HeldAt q' none)) q $ check ! is $
-        -- [what a T owns; the cell; what closes it; the shared borrow; the last value; token 1; true; the slice; true]
-        move ! (7 ∷ 5 ∷ []) $ join ! $ keep ! (0 ∷ 2 ∷ 1 ∷ 3 ∷ 4 ∷ 5 ∷ []) $ done !))
+        -- [what a T owns; the cell; what closes it; the shared borrow; token 1; true; the slice; true]
+        move ! (6 ∷ 4 ∷ []) $ join ! $ keep ! (0 ∷ 2 ∷ 1 ∷ 3 ∷ 4 ∷ []) $ done !))
 
     -- how the body must end: after the call
     abbrev pub Shared-ends : Val → Option (List (Of E)) → Type 2
@@ -346,13 +372,12 @@ module _ {M : Type 1} {𝓤 : Ura M} (𝓛 : Logic 𝓤) {T E : Plain} (F : Shar
         qed 𝓛 (kept 𝓛 ℓ (Opt.some ys) ∷ opened 𝓛 ℓ q) ∵ updating ! $ move ! (1 ∷ 2 ∷ 3 ∷ []) $
         shuts ! tt (row_of T) q ℓ.t (val T ℓ.t ∷ []) ℓ.b₀ ℓ.o₀ $
         by ! (
-        qed 𝓛 (‵ (flft ℓ.κ₀ ℓ.q₀) ∷ kept 𝓛 ℓ (Opt.some ys) ∷ ‵ (fshr_bor ℓ.κ₀ (λ s. part_at (row_of T) s ℓ.t ℓ.b₀ ℓ.o₀)) ∷
-        ‵ (fres ℓ.γ₀ ((coded T).code ℓ.t)) ∷ []) ∵
+        qed 𝓛 (‵ (flft ℓ.κ₀ ℓ.q₀) ∷ kept 𝓛 ℓ (Opt.some ys) ∷ ‵ (hidden_shr (row_of T) ℓ.κ₀ ℓ.t ℓ.b₀ ℓ.o₀) ∷ []) ∵
         suffices ! _ (ends_at 𝓛 (shared_ended F) hs Cl bound (val F.R r) r (tt, (ys, tt)) (tt, (l, tt))) $
         suffices ! _ (beside 𝓤 _ (fact_i 𝓤 _ (emp 𝓤) e)) $
         move ! (1 ∷ []) $ split ! $ nothing ! $ move ! (2 ∷ 0 ∷ []) $ join ! $ move ! (2 ∷ 0 ∷ []) $ join ! $ frame ! $
-        -- [the last list; the shared borrow; the last value]
-        feq_i ! (List Val) (vptr ℓ.b₀ ℓ.o₀ ∷ []) (vptr ℓ.b₀ ℓ.o₀ ∷ []) refl $ move ! (0 ∷ 3 ∷ 2 ∷ []) $ fjoin3 ! $
+        -- [the last list; the shared borrow]
+        feq_i ! (List Val) (vptr ℓ.b₀ ℓ.o₀ ∷ []) (vptr ℓ.b₀ ℓ.o₀ ∷ []) refl $ move ! (0 ∷ 2 ∷ []) $ fjoin ! $
         nothing ! $ move ! (2 ∷ 0 ∷ []) $ fjoin ! $ move ! (1 ∷ 0 ∷ []) $ fjoin ! $
         use0 𝓛 (‵ (own F.R r (val F.R r ∷ []))) (makes_shadow 𝓛 (own F.R r _) (F.R.facts (F.R.F.into r) _) is) $
         move ! (1 ∷ 0 ∷ []) $ done !)
@@ -394,20 +419,19 @@ module _ {M : Type 1} {𝓤 : Ura M} (𝓛 : Logic 𝓤) {T E : Plain} (F : Shar
 
       walks-it : Walks 𝓛 (shared_ended F) hs Run Cl
       walks-it =
-          walked 𝓛 (shared_ended F) hs Cl Run (λ κs. (shr_vals, (shr_slice_vals, tt)))
+          walked 𝓛 (shared_ended F) hs Cl Run (λ κs. (shr_vals, (mut_slice_vals, tt)))
           (λ κs. (shr_Tells (named 0) κs.0 (row_of T), (mut_slice_Tells (named 1) κs.1.0 (row_of E), tt)))
           (λ κs qs bounds a g are. via 𝓤 _ (fst∗ 𝓤 _ (emp 𝓤)) (walk (record {
             κ₀ = κs.0;
             q₀ = qs.0;
-            b₀ = a.0.ptr.0;
-            o₀ = a.0.ptr.1;
-            γ₀ = a.0.name;
+            b₀ = a.0.ref_ptr.0;
+            o₀ = a.0.ref_ptr.1;
             t = a.0.now;
             κ₁ = κs.1.0;
             q₁ = qs.1.0;
-            b₁ = a.1.0.ptr.0;
-            o₁ = a.1.0.ptr.1;
-            γ₁ = a.1.0.name;
+            b₁ = a.1.0.ref_ptr.0;
+            o₁ = a.1.0.ref_ptr.1;
+            γ₁ = a.1.0.ghost_name;
             xs = a.1.0.now;
           }) are.1.0.0.1))
 

@@ -4,7 +4,7 @@
 use mathlib.Core.Path.{◌≡◌, refl}
 use mathlib.Core.List.{[], ◌∷◌}
 use seplogic.Ra.Ura.{Ura}
-use mir.Syntax.{Name, Fn, Ty, Local, ty_ref, erased, mut, local, value_local, place, deref, copy, addr_of, seq, assign, call, return}
+use mir.Syntax.{Callee as Name, Fn, Ty, Local, ty_ref, erased, mut, local, value_local, place, deref, copy, addr_of, seq, assign, call, return}
 use prog.Model.{Model}
 use prog.Routine.{Routine, Env as Routines}
 use prog.Wp.{Closed}
@@ -26,6 +26,8 @@ module _ (T P R : Plain) where
   pass_fn g = record {
     lifetimes = 1;
     outlives = [];
+    ty_params = [];
+    givens = 0;
     params = 2;
     locals = value (ty R) ∷ value (lent_ty T) ∷ value (ty P) ∷ value (ty_ref erased mut (pointee T.F.row.written)) ∷ [];
     body =

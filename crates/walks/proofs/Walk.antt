@@ -11,10 +11,11 @@ use Prim.Native.Nat.{ℕ, zero, suc, ◌^◌}
 use seplogic.Ra.Ura.{Ura}
 use lib.Dec.{T, ltb}
 use lib.ListN.{get_or, replicate}
-use mir.Syntax.{Name, Ty, deref, field, variant, Place, place}
-use mir.Syntax.{Opd as Operand, copy, int, int_neg, int_big, float, opd_true, opd_false, opd_unit, ptr_const}
-use mir.Syntax.{Rv as RValue, rv_opd, op1, op2, addr_of, aggregate, repeat, Body, skip, seq, assign, block, loop, cond, switch, exit, return, call}
-use mir.Val.{Val, vunit, vbool, vint, vfloat, vptr, vstruct, of_list, bits, Dom, op1_chk, op1_val, op2_chk, op2_val}
+use mir.Syntax.{Callee as Name, Ty, deref, field, variant, Place, place}
+use mir.Syntax.{Opd as Operand, copy, int, int_neg, int_big, float, opd_true, opd_false, opd_unit, ptr_const, size_of, align_of, num_of, fn_addr, vtable}
+use mir.Syntax.{Rv as RValue, rv_opd, op1, op2, addr_of, aggregate, repeat, repeat_p, select}
+use mir.Syntax.{Body, skip, seq, assign, block, loop, cond, switch, exit, return, call, unreachable, call_v, lend_static}
+use mir.Val.{Val, vunit, vbool, vint, vfloat, vptr, vstruct, vcode, of_list, bits, Dom, op1_chk, op1_val, op2_chk, op2_val}
 use base.Logic.{SProp, ent, sep, guard, via, id⊢, mono∗, ex_i, guard_i}
 use prog.Wp.{Env, Out, next, exits, returns, Tables, after_seq, after_block, after_turn, Wp, Spot}
 use types.Logic.{Logic}
@@ -53,6 +54,7 @@ if_pointer (vbool y) K = Stuck
 if_pointer (vint w n) K = Stuck
 if_pointer (vfloat f x) K = Stuck
 if_pointer (vstruct vs) K = Stuck
+if_pointer (vcode c) K = Stuck
 
 abbrev pub if_bool : Val → (Bool → Type 2) → Type 2
 if_bool (vbool y) K = K y
@@ -61,6 +63,7 @@ if_bool (vptr b o) K = Stuck
 if_bool (vint w n) K = Stuck
 if_bool (vfloat f x) K = Stuck
 if_bool (vstruct vs) K = Stuck
+if_bool (vcode c) K = Stuck
 
 abbrev pub if_local : List Ty → ℕ → (Ty → Type 2) → Type 2
 if_local [] i K = Stuck
@@ -138,6 +141,11 @@ module _ {M : Type 1} {𝓤 : Ura M} (𝓛 : Logic 𝓤) (𝓣 : Tables 𝓤 �
     OpdOk ls opd_false K = K (vbool false)
     OpdOk ls opd_unit K = K vunit
     OpdOk ls (ptr_const n) K = Stuck
+    OpdOk ls (size_of τ) K = Stuck
+    OpdOk ls (align_of τ) K = Stuck
+    OpdOk ls (num_of w τ) K = Stuck
+    OpdOk ls (fn_addr c ς) K = Stuck
+    OpdOk ls (vtable τ ss) K = Stuck
 
     abbrev pub OpdsOk : Locals → List Operand → (List Val → Type 2) → Type 2
     OpdsOk ls [] K = K []
@@ -154,6 +162,11 @@ module _ {M : Type 1} {𝓤 : Ura M} (𝓛 : Logic 𝓤) (𝓣 : Tables 𝓤 �
     RvOk s (rv_opd opd_false) K = K (vbool false)
     RvOk s (rv_opd opd_unit) K = K vunit
     RvOk s (rv_opd (ptr_const n)) K = Stuck
+    RvOk s (rv_opd (size_of τ)) K = Stuck
+    RvOk s (rv_opd (align_of τ)) K = Stuck
+    RvOk s (rv_opd (num_of w τ)) K = Stuck
+    RvOk s (rv_opd (fn_addr c ς)) K = Stuck
+    RvOk s (rv_opd (vtable τ ss)) K = Stuck
     RvOk s (op2 o x y) K = OpdOk s.1 x (λ a. OpdOk s.1 y (λ b. Then (Dom (op2_chk o a b)) (λ _. K (op2_val o a b))))
     RvOk s (op1 o x) K = OpdOk s.1 x (λ a. Then (Dom (op1_chk o a)) (λ _. K (op1_val o a)))
     RvOk s (addr_of (place i [])) K = Stuck
@@ -163,6 +176,8 @@ module _ {M : Type 1} {𝓤 : Ura M} (𝓛 : Logic 𝓤) (𝓣 : Tables 𝓤 �
     RvOk s (addr_of (place i (variant k ∷ st))) K = Stuck
     RvOk s (aggregate xs) K = OpdsOk s.1 xs (λ vs. K (vstruct (of_list vs)))
     RvOk s (repeat x n) K = OpdOk s.1 x (λ v. K (vstruct (of_list (replicate n v))))
+    RvOk s (repeat_p x i) K = Stuck
+    RvOk s (select m x y) K = Stuck
 
     -- ---- what statements need
     -- a store behind the reference is given by hand: the value there after it, and how it is written
@@ -223,6 +238,9 @@ module _ {M : Type 1} {𝓤 : Ura M} (𝓛 : Logic 𝓤) (𝓣 : Tables 𝓤 �
         OpdsOk s.1 xs (λ vs. Then (vs ≡ F.vals a) (λ _.
         if_local τs i (λ τ. Then (τ ≡ F.ty) (λ _. F.know s.0 a → Q next (F.after s.0 a, put_at τs s.1 i (F.res s.0 a))))))))))
     Ok (call f xs (place i (x ∷ st))) Q s = Stuck
+    Ok unreachable Q s = Stuck
+    Ok (call_v c ς xs p) Q s = Stuck
+    Ok (lend_static p τ c) Q s = Stuck
 
     -- ---- from these facts to the logic: operands and right sides
     local-opd : (ls : Locals) (i : ℕ) (o : Option Val) → val_at τs ls i ≡ o → (K : Val → Type 2) → if_known o K
@@ -242,6 +260,11 @@ module _ {M : Type 1} {𝓤 : Ura M} (𝓛 : Logic 𝓤) (𝓣 : Tables 𝓤 �
     opd-of ls opd_false K k = (vbool false, (λ bs I. false_lit !), k)
     opd-of ls opd_unit K k = (vunit, (λ bs I. unit_lit !), k)
     opd-of ls (ptr_const n) K k = elim k [ ]
+    opd-of ls (size_of τ) K k = elim k [ ]
+    opd-of ls (align_of τ) K k = elim k [ ]
+    opd-of ls (num_of w τ) K k = elim k [ ]
+    opd-of ls (fn_addr c ς) K k = elim k [ ]
+    opd-of ls (vtable τ ss) K k = elim k [ ]
 
     opds-of : (ls : Locals) (xs : List Operand) (K : List Val → Type 2) → OpdsOk ls xs K → (vs : List Val) × HasOpds ls xs vs × K vs
     opds-of ls [] K k = ([], (λ bs I. no_more !), k)
@@ -263,6 +286,7 @@ module _ {M : Type 1} {𝓤 : Ura M} (𝓛 : Logic 𝓤) (𝓣 : Tables 𝓤 �
     addr-of s i τ (Opt.some (vint w n)) e K k = elim k [ ]
     addr-of s i τ (Opt.some (vfloat f x)) e K k = elim k [ ]
     addr-of s i τ (Opt.some (vstruct vs)) e K k = elim k [ ]
+    addr-of s i τ (Opt.some (vcode c)) e K k = elim k [ ]
 
     as-rv : (s : State) (x : Operand) (K : Val → Type 2) → (v : Val) × HasOpd s.1 x v × K v → (v : Val) × HasRv s (rv_opd x) v × K v
     as-rv s x K k = (k.0, (λ bs. of_opd ! (k.1 bs (item s.0))), k.2)
@@ -278,6 +302,11 @@ module _ {M : Type 1} {𝓤 : Ura M} (𝓛 : Logic 𝓤) (𝓣 : Tables 𝓤 �
     rv-of s (rv_opd opd_false) K k = as-rv s opd_false K (opd-of s.1 opd_false K k)
     rv-of s (rv_opd opd_unit) K k = as-rv s opd_unit K (opd-of s.1 opd_unit K k)
     rv-of s (rv_opd (ptr_const n)) K k = elim k [ ]
+    rv-of s (rv_opd (size_of τ)) K k = elim k [ ]
+    rv-of s (rv_opd (align_of τ)) K k = elim k [ ]
+    rv-of s (rv_opd (num_of w τ)) K k = elim k [ ]
+    rv-of s (rv_opd (fn_addr c ς)) K k = elim k [ ]
+    rv-of s (rv_opd (vtable τ ss)) K k = elim k [ ]
     rv-of s (op2 o x y) K k =
         let x₁ = opd-of s.1 x (λ a. OpdOk s.1 y (λ b. Then (Dom (op2_chk o a b)) (λ _. K (op2_val o a b)))) k in
         let x₂ = opd-of s.1 y (λ b. Then (Dom (op2_chk o x₁.0 b)) (λ _. K (op2_val o x₁.0 b))) x₁.2 in
@@ -296,6 +325,8 @@ module _ {M : Type 1} {𝓤 : Ura M} (𝓛 : Logic 𝓤) (𝓣 : Tables 𝓤 �
     rv-of s (repeat x n) K k =
         let x₁ = opd-of s.1 x (λ v. K (vstruct (of_list (replicate n v)))) k in
         (vstruct (of_list (replicate n x₁.0)), (λ bs. rep ! n (x₁.1 bs (item s.0))), x₁.2)
+    rv-of s (repeat_p x i) K k = elim k [ ]
+    rv-of s (select m x y) K k = elim k [ ]
 
     -- ---- a local is written
     abbrev WritesLocal : Blocks τs → Locals → ℕ → Val → Item 𝓤 → List (Item 𝓤) → Type 2
@@ -413,6 +444,7 @@ module _ {M : Type 1} {𝓤 : Ura M} (𝓛 : Logic 𝓤) (𝓣 : Tables 𝓤 �
         on_test (vint w n) o k = elim k [ ]
         on_test (vfloat w x) o k = elim k [ ]
         on_test (vstruct vs) o k = elim k [ ]
+        on_test (vcode t) o k = elim k [ ]
 
       calls-it : (f : Name) (xs : List Operand) (i : ℕ) (Q : Ends) (q : Out → SProp 𝓤) → Holds Q q → (s : State)
           → Ok (call f xs (place i [])) Q s → Runs (call f xs (place i [])) q s
@@ -463,3 +495,6 @@ module _ {M : Type 1} {𝓤 : Ura M} (𝓛 : Logic 𝓤) (𝓣 : Tables 𝓤 �
       ok-runs return Q q h s k = record { prf = via 𝓤 (q returns) (h returns s k) (𝓛.laws.⇛_intro _) }
       ok-runs (call f xs (place i [])) Q q h s k = calls-it f xs i Q q h s k
       ok-runs (call f xs (place i (x ∷ st))) Q q h s k = elim k [ ]
+      ok-runs unreachable Q q h s k = elim k [ ]
+      ok-runs (call_v c ς xs p) Q q h s k = elim k [ ]
+      ok-runs (lend_static p τ c) Q q h s k = elim k [ ]

@@ -9,7 +9,8 @@ use lib.Dec.{eqb}
 use mir.Syntax.{w8, w64}
 use mir.Val.{vint, vbool, vptr}
 use Rattle.desk.specs.Desk.{no_cell, place_at}
-use Rattle.desk.specs.InPlace.{store_in, named_by, kept_here, change_in, asked_in, stored_in, own_in, answer_in, own_in_lem}
+use Rattle.desk.specs.InPlace.{store_in, named_by, kept_here, change_in, asked_in, stored_in, own_in, answer_in}
+use Rattle.desk.proofs.InPlace.{own_in_lem}
 use Rattle.desk.specs.Parts.{asking_seat, raised_seat, change-asks, change-stores}
 use Rattle.desk.specs.RuleLaws.{allowed, desk-below, event-place}
 use Rattle.desk.specs.Rules.{with_seat, holds}
