@@ -2,10 +2,13 @@
 // Runs frame vectors. Each line of input is a case, and is written again with what reading or writing gives; `-` stands for no bytes.
 //     R <hex input>                                          and then code, used, kind, desks, desk, cell, word, eight clock numbers
 //     W <kind desks desk cell word, eight clock numbers, room>  and then code, used, hex of the output, each byte of which was EE before
+ghost use Rattle.std.specs.Prelude.{◌≤◌, length, IfOk};
+
 use clock::Clock;
 use desk::Message;
 use frame::{Reading, Written};
-use libc::{STDIN_FILENO, STDOUT_FILENO};
+use std::io;
+use std::io::{BufWriter, ErrorKind, Read, Write};
 
 // A case as far as its line has been read.
 #[derive(Clone, Copy)]
@@ -17,17 +20,42 @@ struct Case {
     bytes: [u8; 512],
 }
 
-fn main() {
+fn main(rt: HostRuntime) -> io::Result<()> {
     let mut text = [0u8; 262144];
-    let n = io::read_full(STDIN_FILENO, &mut text);
-    run(&text[..n]);
+    let n = read_full(&mut rt.stdin(), &mut text)?;
+    let mut out = BufWriter::new(rt.alloc(), rt.stdout())?;
+    run(&text[..n], &mut out)?;
+    out.flush()
 }
 
-fn run(text: &[u8]) {
+// Reads until the input ends or buf is full, and again where a signal came between.
+fn read_full<R: Read>(from: &mut R, buf: &mut [u8]) -> io::Result<usize>
+    ensures { IfOk result (λ n. n ≤ length buf.old) }
+{
+    let mut done = 0;
+    for _ in 0..u64::MAX {
+        if buf.len() <= done {
+            return Ok(done);
+        }
+        match from.read(&mut buf[done..]) {
+            Ok(0) => return Ok(done),
+            Ok(more) => done += more,
+            Err(e) => {
+                if e.kind() != ErrorKind::Interrupted {
+                    return Err(e);
+                }
+            }
+        }
+    }
+    Err(io::Error::from(ErrorKind::Interrupted))
+}
+
+fn run<W: Write>(text: &[u8], out: &mut W) -> io::Result<()> {
     let mut case = fresh();
     for i in 0..text.len() {
-        case = next(case, text[i]);
+        case = next(case, text[i], out)?;
     }
+    Ok(())
 }
 
 fn fresh() -> Case {
@@ -40,24 +68,24 @@ fn fresh() -> Case {
     }
 }
 
-fn next(case: Case, b: u8) -> Case {
+fn next<W: Write>(case: Case, b: u8, out: &mut W) -> io::Result<Case> {
     if b == b'\n' {
-        finish(case);
-        io::write_all(STDOUT_FILENO, b"\n");
-        return fresh();
+        finish(case, out)?;
+        out.write_all(b"\n")?;
+        return Ok(fresh());
     }
     let echo = [b];
-    io::write_all(STDOUT_FILENO, &echo);
+    out.write_all(&echo)?;
     if b == b' ' {
-        return with_field(case);
+        return Ok(with_field(case));
     }
     if b == b'W' {
-        return writing(case);
+        return Ok(writing(case));
     }
     if case.writes {
-        return with_decimal(case, b);
+        return Ok(with_decimal(case, b));
     }
-    with_hex(case, nibble(b))
+    Ok(with_hex(case, nibble(b)))
 }
 
 fn with_field(mut case: Case) -> Case {
@@ -106,37 +134,36 @@ fn nibble(b: u8) -> u8 {
     16
 }
 
-fn finish(case: Case) {
+fn finish<W: Write>(case: Case, out: &mut W) -> io::Result<()> {
     if case.writes {
-        finish_write(case);
+        finish_write(case, out)
     } else {
-        finish_read(case);
+        finish_read(case, out)
     }
 }
 
-fn finish_read(case: Case) {
+fn finish_read<W: Write>(case: Case, out: &mut W) -> io::Result<()> {
     let bytes = case.bytes;
     let r = read_first(&bytes, case.digits / 2 % 512);
     let m = r.message;
-    let clock = m.clock;
-    put32(r.code);
-    put(r.used as u64);
-    put8(m.kind);
-    put8(m.desks);
-    put8(m.desk);
-    put8(m.cell);
-    put32(m.word);
-    put32(clock.n[0]);
-    put32(clock.n[1]);
-    put32(clock.n[2]);
-    put32(clock.n[3]);
-    put32(clock.n[4]);
-    put32(clock.n[5]);
-    put32(clock.n[6]);
-    put32(clock.n[7]);
+    put32(r.code, out)?;
+    put(r.used as u64, out)?;
+    put8(m.kind, out)?;
+    put8(m.desks, out)?;
+    put8(m.desk, out)?;
+    put8(m.cell, out)?;
+    put32(m.word, out)?;
+    put_clock(m.clock, out)
 }
 
-fn finish_write(case: Case) {
+fn put_clock<W: Write>(clock: Clock, out: &mut W) -> io::Result<()> {
+    for i in 0..8 {
+        put32(clock.n[i], out)?;
+    }
+    Ok(())
+}
+
+fn finish_write<W: Write>(case: Case, out: &mut W) -> io::Result<()> {
     let n = case.numbers;
     let clock = Clock {
         n: [
@@ -158,12 +185,12 @@ fn finish_write(case: Case) {
         word: word(n[5]),
         clock: clock,
     };
-    let mut out = [0xEEu8; 64];
+    let mut bytes = [0xEEu8; 64];
     let room = (n[14] % 64) as usize;
-    let w = write_first(m, &mut out, room);
-    put32(w.code);
-    put(w.used as u64);
-    put_first(&out, room);
+    let w = write_first(m, &mut bytes, room);
+    put32(w.code, out)?;
+    put(w.used as u64, out)?;
+    put_first(&bytes, room, out)
 }
 
 fn read_first(s: &[u8], n: usize) -> Reading {
@@ -188,11 +215,11 @@ fn write_first(m: Message, out: &mut [u8], room: usize) -> Written {
     )
 }
 
-fn put_first(s: &[u8], n: usize) {
+fn put_first<W: Write>(s: &[u8], n: usize, out: &mut W) -> io::Result<()> {
     if s.len() < n {
-        put_hex(s);
+        put_hex(s, out)
     } else {
-        put_hex(&s[0..n]);
+        put_hex(&s[0..n], out)
     }
 }
 
@@ -204,30 +231,29 @@ fn word(n: u64) -> u32 {
     (n % 4294967296) as u32
 }
 
-fn put8(n: u8) {
-    put(n as u64);
+fn put8<W: Write>(n: u8, out: &mut W) -> io::Result<()> {
+    put(n as u64, out)
 }
 
-fn put32(n: u32) {
-    put(n as u64);
+fn put32<W: Write>(n: u32, out: &mut W) -> io::Result<()> {
+    put(n as u64, out)
 }
 
-fn put(n: u64) {
-    io::write_all(STDOUT_FILENO, b" ");
-    io::print_decimal(STDOUT_FILENO, n);
+fn put<W: Write>(n: u64, out: &mut W) -> io::Result<()> {
+    write!(out, " {n}")
 }
 
-fn put_hex(s: &[u8]) {
+fn put_hex<W: Write>(s: &[u8], out: &mut W) -> io::Result<()> {
     if s.len() == 0 {
-        io::write_all(STDOUT_FILENO, b" -");
-        return;
+        return out.write_all(b" -");
     }
-    io::write_all(STDOUT_FILENO, b" ");
+    out.write_all(b" ")?;
     for i in 0..s.len() {
-        put_byte(s[i]);
+        put_byte(s[i], out)?;
     }
+    Ok(())
 }
 
-fn put_byte(b: u8) {
-    io::print_hex(STDOUT_FILENO, b as u64, 2);
+fn put_byte<W: Write>(b: u8, out: &mut W) -> io::Result<()> {
+    write!(out, "{b:02x}")
 }

@@ -29,6 +29,7 @@ pub fn read(s: &[u8]) -> Reading
     }
 }
 
+#[tactic(auto, using(crate::proofs::Versions::other_version))]
 fn read_code(s: &[u8]) -> u32
     ensures { result ≡ read_code s.now }
 {

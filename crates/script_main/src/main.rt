@@ -1,57 +1,68 @@
 #![tactic(auto)]
-// The script program: reads standard input to its end, and writes what `script::answer` says of it. What it reads and writes no contract
-// can say, so all else is in that function.
-ghost use Rattle.std.specs.Prelude.{◌≤◌, length};
+// The script program: reads standard input to its end, and writes what `script::answer` says of it. What standard input gives and standard
+// output takes no contract can say, so all else is in `respond`, for any reader and any writer.
+ghost use Rattle.std.specs.Prelude.{◌≤◌, ◌<◌, length, take, IfOk, OnOk, IfSome};
+ghost use Rattle.std.specs.Io.KnownBytes.{Appends, Consumes, IsAtEnd};
+ghost use Rattle.text.specs.Script.{answer as script_answer};
+ghost use Rattle.script.specs.Rules.{set_up, event};
 
-use libc::{STDIN_FILENO, STDOUT_FILENO};
+use std::fmt::{Debug, Formatter};
+use std::io::{ErrorKind, Read, Write};
+use std::{fmt, io};
 
-// Whether all reads went well, and how many bytes they put at the start of the buffer.
-#[derive(Clone, Copy)]
-struct Input {
-    ok: bool,
-    count: usize,
+// Which of the two failed.
+#[derive(Drop)]
+enum Failure {
+    Input(io::Error),
+    Output(io::Error),
 }
 
-fn main() {
+impl Debug for Failure {
+    fn fmt<W: fmt::Write>(&self, f: &mut Formatter<W>) -> fmt::Result {
+        match self {
+            Failure::Input(e) => write!(f, "standard input: {e}"),
+            Failure::Output(e) => write!(f, "standard output: {e}"),
+        }
+    }
+}
+
+fn main(rt: HostRuntime) -> Result<(), Failure> {
+    respond(&mut rt.stdin(), &mut rt.stdout())
+}
+
+// Writes what the script that is read must be answered.
+fn respond<R: Read, W: Write>(from: &mut R, to: &mut W) -> Result<(), Failure>
+    ensures { OnOk result (IfSome (R.remaining from.old)
+        (λ text. Appends (W.contents to.old) (W.contents to.new) (script_answer set_up event text))) }
+{
     // one byte more than an input may have
     let mut space = [0u8; 65537];
-    let input = read_all(&mut space);
-    if !input.ok {
-        os::fail(b"standard input");
-        return;
-    }
-    let count = input.count;
+    let count = read_all(from, &mut space).map_err(Failure::Input)?;
     let mut out = [0u8; 270400];
     let n = script::answer(&space[..count], &mut out);
-    if !io::write_all(STDOUT_FILENO, &out[..n]) {
-        os::fail(b"standard output");
-    }
+    to.write_all(&out[..n]).map_err(Failure::Output)
 }
 
-// Reads until the input ends or buf is full.
-fn read_all(buf: &mut [u8]) -> Input
-    ensures { result.count ≤ length buf.old }
+// Reads until the input ends or buf is full, and again where a signal came between.
+fn read_all<R: Read>(from: &mut R, buf: &mut [u8]) -> io::Result<usize>
+    ensures upper_bound { IfOk result (λ n. n ≤ length buf.old) }
+    ensures bytes { IfOk result (λ n. Consumes (R.remaining from.old) (R.remaining from.new) (take n buf.new)) }
+    ensures whole { IfOk result (λ n. n < length buf.old → IsAtEnd (R.remaining from.new)) }
 {
     let mut done = 0;
-    while done < buf.len() {
-        let got = libc::read(STDIN_FILENO, &mut buf[done..]);
-        if got < 0 {
-            return Input {
-                ok: false,
-                count: 0,
-            };
+    for _ in 0..u64::MAX {
+        if buf.len() <= done {
+            return Ok(done);
         }
-        let more = io::count(got, &buf[done..]);
-        if more == 0 {
-            return Input {
-                ok: true,
-                count: done,
-            };
+        match from.read(&mut buf[done..]) {
+            Ok(0) => return Ok(done),
+            Ok(more) => done += more,
+            Err(e) => {
+                if e.kind() != ErrorKind::Interrupted {
+                    return Err(e);
+                }
+            }
         }
-        done += more;
     }
-    Input {
-        ok: true,
-        count: done,
-    }
+    Err(io::Error::from(ErrorKind::Interrupted))
 }

@@ -10,7 +10,6 @@ pub mod Passing
 pub mod Steps
 pub mod Shows
 pub mod Stows
-pub mod Moves
 
 -- a run before its step `now`
 pub record Moment (W : Words) : Type 0 where

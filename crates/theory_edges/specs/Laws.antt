@@ -1,7 +1,7 @@
 -- Laws of all records and tables that a wrong rule would break: what a count counts, and which copies go. A count is "the number of copies held before
 -- and given up by the stated rule", refused or not; at a bring the named cell is taken out before, so it cannot be counted.
 -- Assumes nothing.
-use Rattle.std.specs.Prelude.{◌≡◌, Bool, not, ◌&&◌, cond, eqb, get_or, set}
+use Rattle.std.specs.Prelude.{◌≡◌, Bool, ◌&&◌, cond, eqb, get_or, set}
 use Rattle.std.proofs.Math.Path.{refl, sym, ap}
 use Rattle.std.proofs.Common.{◌∙◌, arith}
 use Rattle.std.proofs.Math.Bool.{true, false, and-not_self, and-true, and-false}

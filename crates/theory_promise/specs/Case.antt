@@ -1,13 +1,12 @@
 -- 01's whole case, played through: its replies, and the history that the promise speaks of.
 -- Assumes nothing.
-use Rattle.std.specs.Prelude.{◌≡◌, refl, List, [], ◌∷◌, ℕ, replicate}
+use Rattle.std.specs.Prelude.{◌≡◌, refl, List, [], ◌∷◌, replicate}
 use Rattle.theory_causal.specs.History.{blank, from, nothing, wrote, showed}
 use Rattle.desk.specs.declared.Event.{Event}
 use Rattle.desk.specs.declared.Plan.{Plan}
 use Rattle.table.specs.Rules.{event_rule}
 use Rattle.theory_promise.specs.Operations.{Account}
 use Rattle.theory_promise.specs.Played.{event, reply, plan, played}
-use Rattle.theory_promise.specs.Promise.{Explained, demand-3}
 
 -- three desks and two cells: cell 0, the datum, is kept by desk 1, and cell 1, the coordinate, by desk 0
 abbrev pub case_plan : Plan
@@ -35,8 +34,3 @@ pub case-history : case.history ≡
     ∷ showed 0 1 500 (from 6) 9 ∷ nothing ∷ nothing ∷ showed 0 0 27 (from 3) 10 ∷ []
 unfolding case script
 case-history = refl
-
--- and each desk has its order
-pub case-explained : (p : ℕ) → Explained case p
-unfolding case
-case-explained = demand-3 case_plan refl refl script

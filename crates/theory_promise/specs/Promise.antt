@@ -1,21 +1,17 @@
 -- Demand 3 as it is promised: a desk that sees the coordinate has seen the datum. Read this file first; then `Operations` beside it, which
 -- says what the operations of a run are, and `History` and `Demand` of theory_causal, which say what an order of them has to explain.
 -- Assumes nothing.
-use Rattle.std.specs.Prelude.{◌≡◌, refl, List, [], ◌∷◌, ℕ, length}
-use Rattle.std.proofs.Common.{sym, ap, ap₂, subst, ◌∙◌}
+use Rattle.std.specs.Prelude.{◌≡◌, List, [], ◌∷◌, ℕ, length}
 use Rattle.theory_causal.specs.Demand.{Before, InTurn, Order}
 use Rattle.theory_causal.specs.History.{History, listed, ReadBy, word_of}
-use Rattle.theory_causal.specs.Run as machine
 use Rattle.desk.specs.declared.Event.{Event}
 use Rattle.desk.specs.declared.Plan.{Plan}
-use Rattle.table.specs.Choice.{Engine, run, Meets, run_is}
+use Rattle.table.specs.Choice.{Engine}
 use Rattle.table.specs.declared.Outcome.{Outcome}
 use Rattle.table.specs.declared.Table.{Table}
-use Rattle.table.specs.Fresh.{set-up-room}
 use Rattle.table.specs.Rules.{event_rule}
 use Rattle.table.specs.SetUp.{set_up_rule}
-use Rattle.theory_promise.specs.Operations.{words, Shows, Account, replied_at, opened, told, account}
-use Rattle.theory_promise.specs.Runs.{runs-from}
+use Rattle.theory_promise.specs.Operations.{words, Shows, Account, replied_at, account}
 
 -- what happened in a run
 abbrev pub history_of : Account → History words
@@ -38,18 +34,6 @@ Demand3 rule =
     (plan : Plan) → length plan.keepers ≡ 32 → (set_up_rule plan).code ≡ 0
     → (events : List Event) (p : ℕ) → Explained (account rule (set_up_rule plan).table events) p
 
--- The table's rule keeps it.
-pub demand-3 : Demand3 event_rule
-demand-3 plan long ok events p =
-    let r = runs-from plan long ok events in
-    let (steps, order, in-turn) = machine.demand-3 r.runs p in
-    record {
-      steps = steps;
-      order = order;
-      in-turn = in-turn;
-      shown = λ x k. rw (← order.explains.word x k) (r.tied x k.0);
-    }
-
 -- ---- From an engine to the promise
 -- Calls of an engine: each outcome is the rule's, from the table that the call before it left. That is what `table_next::next` promises of
 -- each call, and `cwmorlais_table_event` of each reply and of the table that it leaves.
@@ -58,24 +42,3 @@ Called t [] [] = Unit {0}
 Called t [] (o ∷ os) = ⊥
 Called t (e ∷ es) [] = ⊥
 Called t (e ∷ es) (o ∷ os) = (o ≡ event_rule t e) × Called o.after es os
-
-calls-run : (t : Table) (es : List Event) (os : List Outcome) → Called t es os → os ≡ run event_rule t es
-unfolding run
-calls-run t [] [] c = refl
-calls-run t [] (o ∷ os) c = absurd c
-calls-run t (e ∷ es) [] c = absurd c
-calls-run t (e ∷ es) (o ∷ os) c = ap₂ ◌∷◌ c.0 (calls-run o.after es os c.1 ∙ ap (λ (x : Outcome). run event_rule x.after es) c.0)
-
--- So whatever was called, what it told has an order for every desk.
-pub called-keep : (plan : Plan) → length plan.keepers ≡ 32 → (set_up_rule plan).code ≡ 0 → (events : List Event) (outcomes : List Outcome)
-    → Called (set_up_rule plan).table events outcomes → (p : ℕ) → Explained (told (opened (set_up_rule plan).table) events outcomes) p
-called-keep plan long ok events outcomes c p =
-    let t = (set_up_rule plan).table in
-    subst (λ (os : List Outcome). Explained (told (opened t) events os) p) (sym (calls-run t events outcomes c)) (demand-3 plan long ok events p)
-
--- And any engine that meets the event's promise has demand 3.
-pub meets-keeps : (E : Engine) → Meets E → Demand3 E
-meets-keeps E meets plan long ok events p =
-    let t = (set_up_rule plan).table in
-    subst (λ (os : List Outcome). Explained (told (opened t) events os) p) (sym (run_is E meets t events (set-up-room plan long)))
-    (demand-3 plan long ok events p)

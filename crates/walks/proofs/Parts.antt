@@ -12,7 +12,7 @@ use seplogic.Ra.Ura.{Ura}
 use lib.Dec.{T, ltb, ltb→lt, lt→ltb}
 use lib.ListN.{length, get_or, set, replicate, length-map, length-set, length-replicate}
 use mir.Fields.{get_v, set_v}
-use mir.Syntax.{Step as Way, w64, field as to-field}
+use mir.Syntax.{Step as Way, Ty, ty_array, w64, field as to-field}
 use mir.Val.{Val, Vals, Fits, vunit, vcons, vstruct, of_list}
 use base.Fml.{Share}
 use prog.Memory.{size, field_at}
@@ -30,7 +30,7 @@ use denote.Struct.Field.{Field, rows, unit-field}
 use denote.Struct.Laws as LL
 use denote.Struct.Struct.{AreAll, Plains, to_tys}
 use denote.Struct.Values.{Values, intos}
-use Rattle.walks.proofs.Plain.{Plain, Of, ty, val, IsOf, at-val, Form, struct, array}
+use Rattle.walks.proofs.Plain.{Plain, Of, ty, val, own, row_of, IsOf, at-val, Form, struct, array}
 
 -- a part of R's values that is an X. A way of fields leads to it (`step`, then `steps`), `off o` is its place in an R at place o, and `lay t v`
 -- is t's machine value with v in its place
@@ -64,6 +64,28 @@ of {R} {X} {Y} p q = record {
   lay = λ t v. p.lay t (q.lay (p.get t) v);
   lies = λ t w. q.lies (p.get t) (p.lies t w);
   lays = λ t y. ap (p.lay t) (q.lays (p.get t) y) ∙ p.lays t (q.put (p.get t) y);
+}
+
+-- the same part, as one of a plain type that is written otherwise and has the same machine type and values. The way there and back is mostly
+-- `λ x. x`, and each of the facts a `λ x h. h` or a `λ x. refl`
+abbrev pub part_as : {R Y X : Plain} (p : Part R Y) (to : Of X → Of Y) (fro : Of Y → Of X) → ((x : Of X) → IsOf X x → IsOf Y (to x))
+    → ((y : Of Y) → IsOf Y y → IsOf X (fro y)) → ty X ≡ ty Y → ((x : Of X) → val X x ≡ val Y (to x))
+    → ((y : Of Y) → val Y y ≡ val X (fro y)) → Part R X
+part_as {R} {Y} {X} p to fro is-to is-fro same-ty low-to low-fro = record {
+  get = λ t. fro (p.get t);
+  put = λ t x. p.put t (to x);
+  get-is = λ t is. is-fro (p.get t) (p.get-is t is);
+  put_is = λ t is x is_x. p.put_is t is (to x) (is-to x is_x);
+  step = p.step;
+  steps = p.steps;
+  off = p.off;
+  goes = λ {𝓛 = W} {Γ} {N} b o {st} {sp} w.
+      p.goes b o (subst (λ (τ : Ty). Walks (Go {0}) W Γ N (τ, b, p.off o) st sp) same-ty w);
+  lay = p.lay;
+  lies = λ {𝓛 = W} t {i} {q} {b} {o} {back} w.
+      subst (λ (v : Val). Within (Go {0}) W i q (ty X) b (p.off o) v (λ u. back (p.lay t u))) (low-fro (p.get t))
+      (subst (λ (τ : Ty). Within (Go {0}) W i q τ b (p.off o) (val Y (p.get t)) (λ u. back (p.lay t u))) (sym same-ty) (p.lies t w));
+  lays = λ t x. ap (p.lay t) (low-to x) ∙ p.lays t (to x);
 }
 
 -- ---- field k of a list of fields. Past the end stands a field of type `()`
@@ -227,6 +249,39 @@ module _ (E : Plain) (n : ℕ) (xs : List (Of E)) (is : IsOf (array E n) xs) whe
   set_is j x is_x =
       at-val (array E n) (set xs j x) _
       (set is.0 j (val E x), ((refl, length-map (set xs j x) E.F.into ∙ length-set xs j x ∙ long), each_set E xs is.0 j x is_x is.1.1))
+
+-- ---- an array as a generated struct has it in a field: its row is that of `[E; n]`, over E's own row
+abbrev pub IsRow : (E : Plain) (n : ℕ) → List (Of E) → Type 0
+IsRow E n xs = Is (A.Array (row_of E) n) xs (A.array_val (map (val E) xs) ∷ [])
+
+to_rows : (E : Plain) (xs : List (Of E)) (us : List Val) → shadow (A.each E.F.row.Denot E.F.row.own_val (map E.F.into xs) us)
+    → shadow (A.each (Of E) (own E) xs us)
+to_rows E [] [] s = tt
+to_rows E [] (u ∷ us) s = s
+to_rows E (x ∷ xs) [] s = s
+to_rows E (x ∷ xs) (u ∷ us) s = (s.0, to_rows E xs us s.1)
+
+of_rows : (E : Plain) (xs : List (Of E)) (us : List Val) → shadow (A.each (Of E) (own E) xs us)
+    → shadow (A.each E.F.row.Denot E.F.row.own_val (map E.F.into xs) us)
+of_rows E [] [] s = tt
+of_rows E [] (u ∷ us) s = s
+of_rows E (x ∷ xs) [] s = s
+of_rows E (x ∷ xs) (u ∷ us) s = (s.0, of_rows E xs us s.1)
+
+module _ (E : Plain) (n : ℕ) (xs : List (Of E)) where
+  pub is-row : IsOf (array E n) xs → IsRow E n xs
+  is-row is = (is.0, ((is.1.0.0, sym (length-map xs E.F.into) ∙ is.1.0.1), to_rows E xs is.0 is.1.1))
+
+  pub row-is : IsRow E n xs → IsOf (array E n) xs
+  row-is is = (is.0, ((is.1.0.0, length-map xs E.F.into ∙ is.1.0.1), of_rows E xs is.0 is.1.1))
+
+-- a field that is an array: `array_as E n (field_of S k refl refl) (λ x. x) (λ x. x) (λ x h. h) (λ x h. h) refl (λ x. refl) (λ x. refl)`
+abbrev pub array_as : (E : Plain) (n : ℕ) {R Y : Plain} (p : Part R Y) (to : List (Of E) → Of Y) (fro : Of Y → List (Of E))
+    → ((xs : List (Of E)) → IsRow E n xs → IsOf Y (to xs)) → ((y : Of Y) → IsOf Y y → IsRow E n (fro y)) → ty_array (ty E) n ≡ ty Y
+    → ((xs : List (Of E)) → A.array_val (map (val E) xs) ≡ val Y (to xs)) → ((y : Of Y) → val Y y ≡ A.array_val (map (val E) (fro y)))
+    → Part R (array E n)
+array_as E n p to fro is-to is-fro =
+    part_as p to fro (λ xs is. is-to xs (is-row E n xs is)) (λ y is. row-is E n (fro y) (is-fro y is))
 
 -- ---- a struct and an array are ones of their type where their parts are: for constants, and for what code builds
 abbrev AllOf : (Fs : List Field) → LL.Lawss Fs → Values Fs → Type 0

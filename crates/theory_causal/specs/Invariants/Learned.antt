@@ -1,16 +1,16 @@
--- At one moment: what clocks and stamps know, and why a copy that a desk keeps on learning a clock is fresh for it.
+-- At one moment: what clocks and stamps know.
 -- Assumes nothing.
 use Rattle.std.proofs.Math.Path.{◌≡◌, fun_ext}
-use Rattle.std.proofs.Common.{sym, ap, subst, subst₂, ◌∙◌, inl, inr, ⊎_elim}
-use Rattle.std.specs.Prelude.{Bool, true, ◌⊎◌, ◌≢◌, ℕ, suc, ◌<◌}
+use Rattle.std.proofs.Common.{sym, ap, subst, ◌∙◌, inl, inr}
+use Rattle.std.specs.Prelude.{Bool, true, ◌⊎◌, ℕ, suc, ◌<◌}
 use native.Mathlib.Omega.{arith}
 use Rattle.std.proofs.Math.Decide.{dec_le, ℕ_discrete}
 use Rattle.theory_causal.specs.Changed.{changed-here, changed-elsewhere}
 use Rattle.theory_causal.specs.History.{Words, write, Source, blank, from, History, Writes}
 use Rattle.theory_causal.specs.Facts.{Clock, ◌≼◌, zeros, Knows, Closed, stamp_of, Stored, After, Fresh, known, writing}
-use Rattle.theory_causal.specs.Machine.{merged, raised, Earlier, Held, Cell, held, Slot, empty, read_asked, write-asked}
-use Rattle.theory_causal.specs.Machine.{read-answered, write-answered, State, Was, Spared}
-use Rattle.theory_causal.specs.Invariants.{Moment, Good, Genuine, Copy, Shelf, Level, Sent, Answer, Slotted, Inv}
+use Rattle.theory_causal.specs.Machine.{merged, raised, Held, Slot, empty, read_asked, write-asked}
+use Rattle.theory_causal.specs.Machine.{read-answered, write-answered, State}
+use Rattle.theory_causal.specs.Invariants.{Moment, Good, Genuine, Level, Sent, Answer, Slotted, Inv}
 
 -- ---- clocks
 pub raised-grows : (p : ℕ) (a : Clock) → a ≼ raised p a
@@ -105,56 +105,13 @@ module _ {W : Words} {M : Moment W} {S : State W} (I : Inv M S) where
       let i = I.told w lt (writing H k.0) in
       (i.climbs c k v a h.1, i.new k.0 v a (writing H h.1.0))
 
-  passed : {c : ℕ} {g : Held W} → Genuine M c g → (w : ℕ) → w < t → Writes H c w → After g.source w
+  pub passed : {c : ℕ} {g : Held W} → Genuine M c g → (w : ℕ) → w < t → Writes H c w → After g.source w
       → g.stamp ≼ know w × (g.stamp (H w).desk < know w (H w).desk)
   passed {c} {g} e w lt k a = rw e.stamp (passed-source c g.source e.stored w lt k a)
 
-  -- so it is fresh for its own stamp, and strictly before every clock that knows the later write whole
+  -- so it is fresh for its own stamp
   pub fresh-stamp : {c : ℕ} {g : Held W} → Genuine M c g → Fresh H know t c g.source g.stamp
   fresh-stamp e w lt k a n = omega (arith, (passed e w lt k a).1)
-
-  earlier : {c : ℕ} {g : Held W} {a : Clock} → Genuine M c g → Closed H know t a → (w : ℕ) → w < t → Writes H c w → After g.source w
-      → Knows H know a w → Earlier g.stamp a
-  earlier e z w lt k f n =
-      let (le, new) = passed e w lt k f in
-      let whole = z w lt k.0 n in
-      (λ j. omega (arith, le j, whole j), ((H w).desk, omega arith))
-
-  -- ---- a desk learns a clock
-  pub spared-fresh : {c : ℕ} {g : Held W} {a b : Clock} (new : ℕ → Cell W) → Copy M a c g → Closed H know t b
-      → new c ≡ held g → Spared S.last b new c
-      → Fresh H know t c g.source (merged a b)
-  spared-fresh {c} {g} {a} {b} new copy z e spared =
-      fresh-merged H know g.source a b copy.fresh
-      (λ w lt k f n.
-      ⊎_elim
-      (λ late. late (earlier copy.genuine z w lt k f n))
-      (λ last. (I.lasts c).top w lt k (subst (λ (x : Held W). After x.source w) last f))
-      (spared g e))
-
-  -- the named cell may hold what was learned if that is fresh for the desk
-  pub shelf-learns : {a : Clock} {old new : ℕ → Cell W} (c : ℕ) {g : Held W} → Shelf M a old → Genuine M c g
-      → ((b : ℕ) → b ≢ c → Was old new b) → ((b : ℕ) → b ≢ c → Spared S.last g.stamp new b)
-      → ((h : Held W) → new c ≡ held h → (h ≡ g) × Fresh H know t c g.source a) → Shelf M (merged a g.stamp) new
-  shelf-learns {a} {old} {new} c {g} s i was spared named = record {
-    good = good-merged s.good (good-stamp i);
-    copies = λ x h e. elim (ℕ_discrete x c) [ yes j ↦ same x h j e | no ne ↦ other x h ne e ];
-  }
-    where
-      other : (x : ℕ) (h : Held W) → x ≢ c → new x ≡ held h → Copy M (merged a g.stamp) x h
-      other x h ne e =
-          let copy = s.copies x h (was x ne h e) in
-          record {
-            genuine = copy.genuine;
-            under = λ j. omega (arith, copy.under j);
-            fresh = spared-fresh new copy (good-stamp i).closed e (spared x ne);
-          }
-
-      same : (x : ℕ) (h : Held W) → x ≡ c → new x ≡ held h → Copy M (merged a g.stamp) x h
-      same x h j e =
-          let (k, f) = named h (subst (λ (z : ℕ). new z ≡ held h) j e) in
-          subst₂ (Copy M (merged a g.stamp)) (sym j) (sym k)
-          record { genuine = i; under = λ j. omega arith; fresh = fresh-merged H know g.source a g.stamp f (fresh-stamp i) }
 
   -- ---- sent clocks: the raised number is of no write so far
   pub raised-knows : (p : ℕ) {a : Clock} → Level M p a → (w : ℕ) → w < t → (H w).kind ≡ write

@@ -1,0 +1,3 @@
+-- The invariants of the machine hold on, move by move.
+pub mod Learned
+pub mod Moves

@@ -1,0 +1,3 @@
+pub mod Invariants
+pub mod Run
+pub mod Example
