@@ -71,6 +71,8 @@ fn seats_sum(t: &mut Table) -> Sum
 pub fn sound(t: &mut Table) -> bool
     ensures { (result ≡ table_sound t.old) × (t.new ≡ t.old) }
 {
+    // (What is read of the table tells the proof that its arrays have their lengths.)
+    let _mark = t.seats[0].served;
     if !tray_sound(tray(t)) {
         return false;
     }
