@@ -73,7 +73,8 @@ run-requires-clause-t_value c =
     let m = c.made-made in
     let long : length c.read_line-two.result.n ≡ 32 = search rules in
     let plan : Plan = record { desks = c.args.desks; cells = c.args.cells; keepers = c.read_line-two.result.n } in
-    (rw m.ensures (set-up-sound plan long (rw (← m.ensures) c.if-code-ne0.false)), rw m.ensures (set-up-room plan long))
+    let done : m.result.code ≡ 0 = omega arith in
+    (rw m.ensures (set-up-sound plan long (rw (← m.ensures) done)), rw m.ensures (set-up-room plan long))
 
 pub returns-clause-put : goal.returns-clause-put
 returns-clause-put c =
@@ -81,8 +82,9 @@ returns-clause-put c =
     let l = c.read_line-two in
     let m = c.made-made in
     let cells = c.requires.cells_nonzero in
+    let done : m.result.code ≡ 0 = omega arith in
     rw (
       made-is a.s.now a.at a.desks a.cells cells.0 cells.1 l.result l.ensures m.result c.if-two-cells.false m.ensures,
-      started-run set_up event a.s.now l.result.next m.result.code m.result.table c.if-code-ne0.false,
+      started-run set_up event a.s.now l.result.next m.result.code m.result.table done,
     )
     c.run.ensures.put
