@@ -1,15 +1,14 @@
 -- The owner rules as the code does them where the table lies: cell by cell and seat by seat. Each is the rule, for an event that is not refused.
 -- Assumes nothing.
-use Rattle.std.specs.Prelude.{◌≡◌, Bool, ◌&&◌, cond, ℕ, ◌+◌, ◌*◌, ◌<◌, eqb, length, get_or, set}
+use Rattle.std.specs.Prelude.{◌≡◌, Bool, cond, ℕ, ◌+◌, ◌*◌, ◌<◌, eqb}
 use Rattle.std.proofs.Math.Path.{refl, sym, ap}
-use Rattle.std.proofs.Common.{ap₂, ◌∙◌, arith}
+use Rattle.std.proofs.Common.{◌∙◌, arith}
 use Rattle.std.proofs.Math.Bool.{true, false}
 use Rattle.std.proofs.Math.Logic.{⊎_elim}
 use borrow.Author.Tests.{eqb-true, eqb-false, eq-eqb, ne_eqb, lt-ltb}
 use Rattle.std.proofs.Math.ListN.{length-set}
 use Rattle.std.proofs.Math.Seq.{get_or-set_same}
-use Rattle.clock.specs.declared.Clock.{Clock}
-use Rattle.clock.specs.Clock.{merged, raised}
+use Rattle.clock.specs.Clock.{raised}
 use Rattle.desk.specs.declared.Cell.{Cell}
 use Rattle.desk.specs.declared.Event.{Event}
 use Rattle.desk.specs.declared.Message.{Message}
@@ -18,21 +17,20 @@ use Rattle.desk.specs.declared.Reply.{Reply}
 use Rattle.desk.specs.declared.Seat.{Seat}
 use Rattle.desk.specs.declared.Step.{Step}
 use Rattle.desk.specs.Parts.{change_of, asked_for, asking_seat, raised_seat, read_reply, write_reply, own_reply, took_seat, answered_seat, home_seat, brought_cell, brought_reply}
-use Rattle.desk.specs.Desk.{Word, no_word, is_blank, no_cell, past_cell, cell_at, place_at, kept_by, keeps, held_cell, is_copy, left_at, left_of, loss_of, answer_kind, is_own}
+use Rattle.desk.specs.Desk.{Word, no_word, no_cell, past_cell, cell_at, place_at, kept_by, keeps, held_cell, is_copy, left_at, left_of, loss_of, is_own}
 use Rattle.desk.specs.Kept.{holds_row, no-cell-rule}
 use Rattle.desk.specs.RuleLaws.{own_is, asked-kind}
-use Rattle.desk.specs.Rules.{with_clock, with_slot, with_seat, with_row, holds, shown_code, marked_served, takes, read_served, write_served, serve_done, brings, bring_done}
-use Rattle.desk.specs.Rules.{read_asked, write_asked, next_clock, read_rule, write_rule, drop_rule, event_done}
+use Rattle.desk.specs.Rules.{with_slot, with_seat, with_row, holds, takes, read_served, write_served, serve_done, brings, bring_done}
+use Rattle.desk.specs.Rules.{read_asked, write_asked, read_rule, write_rule, drop_rule, event_done}
 use Rattle.desk.specs.SameDesk.{SameDesk, seat-same, takes_same, serve-same}
 use Rattle.desk.specs.SoundLaws.{RowRule}
 use Rattle.theory_lists.specs.Each.{length-map_at}
-use Rattle.table.specs.declared.Outcome.{Outcome}
 use Rattle.table.specs.declared.Table.{Table}
 use Rattle.table.specs.Changes.{with_cell, with_seat_of, lost_of, lost_count, put-none, cell-put, seat-put, lost-put, lost-count, put-put}
 use Rattle.table.specs.Rows.{Sized, row-length, put-sized, put_same, put_other}
 use Rattle.table.specs.RuleLaws.{Passed, pass, own-kind, here, take-asks, bring-asks, take-there, bring-there, own-there}
-use Rattle.table.specs.Rules.{message_of, outcome, answer_slot, answered, put_answer, keeper_step, take_rule, bring_rule, own_rule, refusal, done}
-use Rattle.table.specs.SoundLaws.{entry-is, desk-below}
+use Rattle.table.specs.Rules.{message_of, outcome, answer_slot, put_answer, keeper_step, take_rule, bring_rule, own_rule, refusal, done}
+use Rattle.table.specs.SoundLaws.{entry-is}
 use Rattle.table.specs.Table.{seat_of, slot_of, keeper_for, record_of, put_back}
 
 -- ---- one change after others of the same desk
