@@ -40,6 +40,7 @@ fn lose(t: &mut Table, d: usize, learnt: Clock) -> u32
 }
 
 // Desk d stores a word in its cell c, under the clock of its new seat.
+#[tactic(auto, unfolding(table::specs::InPlace::store_in))]
 fn store(t: &mut Table, d: usize, c: usize, s: Seat, word: u32)
     requires { (d < 8) × (c < 32) }
     ensures { t.new ≡ store_in t.old d c s word }
@@ -128,6 +129,8 @@ fn done(t: &mut Table, e: Event) -> Reply
     requires { refusal_def t.old e ≡ 0 }
     ensures { (result ≡ (done_def t.old e).reply) × (t.new ≡ (done_def t.old e).after) }
 {
+    // (What is read of the table tells the proof that its arrays have their lengths.)
+    let _mark = t.seats[0].served;
     let d = desk_of(e);
     if is_kind(e, 3) {
         return take(t, d);
