@@ -1,27 +1,18 @@
 -- After each branch the record is what the definitions make of it so far.
-use Rattle.std.proofs.Common.{◌≡◌, ℕ, Bool, cond, eqb, ap, ap₂, sym, ◌∙◌, arith, eq-eqb}
-use borrow.Author.Tests.{ne_eqb}
+use Rattle.std.proofs.Common.{◌≡◌, ℕ, Bool, ap, ap₂, sym, ◌∙◌, arith}
+use Rattle.std.proofs.lemmas.Bool.Decides.{nat_tests}
 use Rattle.clock.specs.Clock.{number}
 use Rattle.desk.specs.declared.Cell.{Cell}
 use Rattle.desk.specs.declared.Counts.{Counts}
 use Rattle.desk.specs.declared.Event.{Event}
 use Rattle.desk.specs.declared.Record.{Record}
 use Rattle.desk.specs.declared.Seat.{Seat}
-use Rattle.desk.specs.Desk.{no_cell, cell_at, place_at, kept_by}
-use Rattle.desk.specs.InPlace.{store_in, named_by, kept_here, change_in, asked_in, stored_in, own_in, answer_in}
-use Rattle.desk.specs.Parts.{change_of, asking_seat, raised_seat, change-asks, change-stores, own_answer}
+use Rattle.desk.specs.Desk.{cell_at, place_at, kept_by}
+use Rattle.desk.specs.InPlace.{named_by, kept_here, change_in, asked_in, stored_in, own_in, answer_in}
+use Rattle.desk.specs.Parts.{change_of, change-asks, change-stores, own_answer}
 use Rattle.desk.specs.RuleLaws.{allowed, desk-below, event-place}
-use Rattle.desk.specs.Rules.{with_seat, holds}
 use Rattle.desk.proofs.InPlace.{own_in_lem}
 use Rattle.desk_step.proofs.own.Goals as goal
-use Rattle.desk_step.proofs.own.Goals.{then-change-eq1, else-change-eq1, then-change-eq2, else-change-eq2, then-change-eq3, else-change-eq3}
-
--- what a branch on a number leaves
-taken : (n m k : ℕ) (a b r : Record) → n ≡ m → n ≡ k → r ≡ a → r ≡ cond (eqb m k) a b
-taken n m k a b r e h is = is ∙ rw (eq-eqb m k (sym e ∙ h))
-
-passed : (n m k : ℕ) (a b r : Record) → n ≡ m → (n ≡ k → ⊥) → r ≡ b → r ≡ cond (eqb m k) a b
-passed n m k a b r e h is = is ∙ rw (ne_eqb m k (λ q. h (e ∙ q)))
 
 -- what is answered, where each part is what the definition names
 answered : (v : Record) (e : Event) (kept : Bool) (x : Cell) (n : Counts) (d : ℕ) (s : Seat) → kept ≡ kept_here v e → x ≡ named_by v e
@@ -80,37 +71,14 @@ returns c =
     let desk : c.desk_index-d.result ≡ v.desk = c.desk_index-d.ensures ∙ c.own_desk-desk.ensures.0 in
     let seat : c.own_seat-s.result ≡ v.seat = c.own_seat-s.ensures.0 ∙ ap (λ (r : Record). r.seat) at-desk in
     let cell : c.cell_of-c.result ≡ e.cell = c.cell_of-c.ensures in
-    let x : c.own_cell-x.result ≡ named_by v e =
-    c.own_cell-x.ensures.0 ∙ ap₂ (λ (r : Record) (i : ℕ). cell_at r.row i) at-seat cell in
+    let x : c.own_cell-x.result ≡ named_by v e = c.own_cell-x.ensures.0 ∙ ap₂ (λ (r : Record) (i : ℕ). cell_at r.row i) at-seat cell in
     let place = c.own_place.ensures.0 ∙ ap₂ (λ (r : Record) (i : ℕ). place_at r.tray i) at-cell cell in
     let kept : c.keeps-kept.result ≡ kept_here v e = c.keeps-kept.ensures ∙ ap₂ kept_by place desk in
-    let change : c.change_of-change.result ≡ change_in v e =
-    c.change_of-change.ensures ∙ ap₂ (λ (k : Bool) (y : Cell). change_of k y e) kept x in
-    let asked : c.if-change-eq1.v ≡ asked_in v e =
-    elim c.if-change-eq1.branch [
-      | then-change-eq1 w ↦ taken _ _ 1 _ v _ change w.if-change-eq1.true
-          (w.v-is ∙ w.put_own_seat.ensures
-          ∙ ap₂ with_seat at-place (w.asking.ensures ∙ ap₂ (λ (s : Seat) (d : ℕ). asking_seat s d e) seat desk))
-      | else-change-eq1 w ↦ passed _ _ 1 (with_seat v (asking_seat v.seat v.desk e)) _ _ change w.if-change-eq1.false (w.v-is ∙ at-place)
-    ] in
-    let stored : c.if-change-eq2.v ≡ stored_in v e =
-    elim c.if-change-eq2.branch [
-      | then-change-eq2 w ↦ taken _ _ 2 _ (asked_in v e) _ change w.if-change-eq2.true
-          (w.v-is ∙ w.store.ensures
-          ∙ ap (λ (r : Record). store_in r c.cell_of-c.result w.raising.result w.new_word.result) asked
-          ∙ ap (λ (i : ℕ). store_in (asked_in v e) i w.raising.result w.new_word.result) cell
-          ∙ ap₂ (store_in (asked_in v e) e.cell) (w.raising.ensures ∙ ap₂ raised_seat seat desk) w.new_word.ensures)
-      | else-change-eq2 w ↦ passed _ _ 2 (store_in (asked_in v e) e.cell (raised_seat v.seat v.desk) e.word) _ _ change
-          w.if-change-eq2.false (w.v-is ∙ asked)
-    ] in
-    let done : c.if-change-eq3.v ≡ own_in v e =
-    elim c.if-change-eq3.branch [
-      | then-change-eq3 w ↦ taken _ _ 3 _ (stored_in v e) _ change w.if-change-eq3.true
-          (w.v-is ∙ w.clear_own.ensures ∙ ap₂ (λ (r : Record) (i : ℕ). holds r i no_cell) stored cell)
-      | else-change-eq3 w ↦ passed _ _ 3 (holds (stored_in v e) e.cell no_cell) _ _ change w.if-change-eq3.false (w.v-is ∙ stored)
-    ] in
-    let after : c.own_counts.new.v ≡ own_in v e = c.own_counts.ensures.1 ∙ done in
-    let counts = c.own_counts.ensures.0 ∙ ap (λ (r : Record). r.tray.counts) done in
+    let change : c.change_of-change.result ≡ change_in v e = c.change_of-change.ensures ∙ ap₂ (λ (k : Bool) (y : Cell). change_of k y e) kept x in
+    let asked : c.if-change-eq1.v ≡ asked_in v e = grind (arith, nat_tests) in
+    let stored : c.if-change-eq2.v ≡ stored_in v e = grind (arith, nat_tests) in
+    let after : c.own_counts.new.v ≡ own_in v e = grind (arith, nat_tests) in
+    let counts = c.own_counts.ensures.0 ∙ ap (λ (r : Record). r.tray.counts) (sym c.own_counts.ensures.1 ∙ after) in
     let last = c.own_seat.ensures.0 ∙ ap (λ (r : Record). r.seat) after in
     let answer = c.own_answer.ensures ∙ answered v e _ _ _ _ _ kept x counts c.own_desk-desk.ensures.0 last in
     (answer ∙ (own_in_lem v e c.requires).0, c.own_seat.ensures.1 ∙ after ∙ (own_in_lem v e c.requires).1)
