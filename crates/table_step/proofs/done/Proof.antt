@@ -7,7 +7,8 @@ use Rattle.desk_acts.proofs.cell_of.Symbol as cell-of
 use Rattle.table_step.proofs.bring.Symbol as bring
 use Rattle.walks.proofs.Callees.{lent, valued}
 use Rattle.table_step.proofs.Steps as steps
-use Rattle.table.specs.InPlace.{done-take, done-bring, done-own, is-own-kind}
+use Rattle.table.proofs.InPlace.{done-take}
+use Rattle.table.specs.InPlace.{done-bring, done-own, is-own-kind}
 use Rattle.table_parts.proofs.Parts as parts
 use Rattle.table_step.proofs.bring.Met as bring-thm
 use Rattle.walks.proofs.Plain.{IsOf, val}
