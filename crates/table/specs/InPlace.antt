@@ -127,13 +127,13 @@ module _ (t : Table) (e : Event) (a : Passed t e) (k : e.kind ≡ 3) where
       (record { same-tray = refl; same_number = refl; same_length = same.same_length }) (slot_of t d).cell stored cell_below
 
   -- the keeper has served: its record is put back, and what it holds is what it answers with
-  record Serves (u : Table) (step : Step) : Type 0 where
-    put : u ≡ put_back t step.after
-    shows : answered_seat (seat_of t d) (cell_at u.cells (by * 32 + (slot_of t d).cell))
+  pub record Serves (u : Table) (step : Step) : Type 0 where
+    pub put : u ≡ put_back t step.after
+    pub shows : answered_seat (seat_of t d) (cell_at u.cells (by * 32 + (slot_of t d).cell))
         ≡ with_slot (seat_of t d) (answer_slot step.message) (seat_of t d).served
 
   -- the answer stands in the asker's slot
-  answer-in : (u : Table) → Serves u (keeper_step t d)
+  pub answer-in : (u : Table) → Serves u (keeper_step t d)
       → with_seat_of u d (answered_seat (seat_of t d) (cell_at u.cells (by * 32 + (slot_of t d).cell))) ≡ (take_rule t d).after
   unfolding take_rule put_answer keeper_step record_of
   answer-in u s =
@@ -153,7 +153,7 @@ module _ (t : Table) (e : Event) (a : Passed t e) (k : e.kind ≡ 3) where
       sym (entry-is (put_back t w) by (slot_of t d).cell cell_below)
       ∙ ap (λ (x : Record). cell_at x.row (slot_of t d).cell) (put_same t by w z by-below same)
 
-  write-serves : (slot_of t d).kind ≡ 2 → Serves (served_in t d) (keeper_step t d)
+  pub write-serves : (slot_of t d).kind ≡ 2 → Serves (served_in t d) (keeper_step t d)
   unfolding served_in keeper_step serve_done write_served message_of record_of takes left_of
   write-serves q =
       let w = takes keeper m in
@@ -167,7 +167,7 @@ module _ (t : Table) (e : Event) (a : Passed t e) (k : e.kind ≡ 3) where
         shows = ap (λ (u : Table). answered_seat (seat_of t d) (cell_at u.cells (by * 32 + (slot_of t d).cell))) write-in ∙ ap (answered_seat (seat_of t d)) shown;
       })
 
-  read-serves : (slot_of t d).kind ≡ 1 → Serves (served_in t d) (keeper_step t d)
+  pub read-serves : (slot_of t d).kind ≡ 1 → Serves (served_in t d) (keeper_step t d)
   unfolding served_in keeper_step serve_done read_served message_of record_of
   read-serves q =
       rw (ne_eqb (slot_of t d).kind 2 (omega arith), eq-eqb (slot_of t d).kind 1 q)
@@ -175,10 +175,6 @@ module _ (t : Table) (e : Event) (a : Passed t e) (k : e.kind ≡ 3) where
         put = sym (put-none t by z by-below);
         shows = ap (answered_seat (seat_of t d)) (sym (entry-is t by (slot_of t d).cell cell_below));
       })
-
-  pub take_in_lem : take_in t d ≡ (take_rule t d).after
-  unfolding take_in
-  take_in_lem = answer-in (served_in t d) (⊎_elim read-serves write-serves (asked-kind (slot_of t d) (a.seat.asked k)))
 
   pub take-reply : take_reply t d ≡ (take_rule t d).reply
   unfolding take_count take_rule keeper_step serve_done read_served write_served message_of record_of
@@ -366,10 +362,6 @@ module _ (t : Table) (e : Event) (a : Passed t e) (o : is_own e ≡ true) where
 module _ (t : Table) (e : Event) (z : Sized t) (none : refusal t e ≡ 0) where
   abbrev passed : Passed t e
   passed = pass t e z none
-
-  pub done-take : eqb e.kind 3 ≡ true → (take_reply t e.desk ≡ (done t e).reply) × (take_in t e.desk ≡ (done t e).after)
-  unfolding done
-  done-take q = let k = eqb-true e.kind 3 q in rw q (take-reply t e passed k, take_in_lem t e passed k)
 
   module _ (p : eqb e.kind 3 ≡ false) where
     pub done-bring : eqb e.kind 4 ≡ true → (bring_reply t e.desk ≡ (done t e).reply) × (bring_in t e.desk ≡ (done t e).after)

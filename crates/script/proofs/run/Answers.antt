@@ -10,7 +10,7 @@ use Rattle.text.specs.Printing.{Put}
 use Rattle.text.specs.Walk.{Walked, walked-length, walked-turn, walked-bad, walked_end}
 use Rattle.table.specs.declared.Table.{Table}
 use Rattle.table.specs.declared.Outcome.{Outcome}
-use Rattle.table.specs.Kept.{event-sound}
+use Rattle.table.proofs.Kept.{event-sound}
 use Rattle.table.specs.Room.{event-room}
 use Rattle.table.specs.Rules.{event_rule}
 use Rattle.script.specs.Rules.{event_of, set_up, event}
