@@ -1,6 +1,6 @@
 #![tactic(auto)]
 // A desk's record through a reference: its parts, each read and stored where it lies. A name begins with *own*: it is the desk's own.
-ghost use Rattle.std.specs.Prelude.{◌≡◌, ◌<◌};
+ghost use Rattle.std.specs.Prelude.{◌≡◌, ◌<◌, length};
 ghost use Rattle.desk.specs.Desk.{no_cell, no_seat, cell_at, place_at};
 ghost use Rattle.desk.specs.Rules.{with_seat, holds};
 ghost use Rattle.desk.specs.Start.{blank_cell};
@@ -66,9 +66,10 @@ pub fn clear_own_seat(v: &mut Record)
     v.seat = Seat::NONE;
 }
 
+// What is read tells too that the row is whole: of a record that is lent nothing else does.
 pub fn own_cell(v: &mut Record, c: usize) -> Cell
     requires { c < 32 }
-    ensures { (result ≡ cell_at v.old.row c) × (v.new ≡ v.old) }
+    ensures { (result ≡ cell_at v.old.row c) × (v.new ≡ v.old) × (length v.old.row ≡ 32) }
 {
     v.row[c]
 }

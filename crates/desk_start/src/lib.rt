@@ -6,7 +6,7 @@ ghost use Rattle.desk.specs.Rules.{with_row};
 ghost use Rattle.desk.specs.Start.{fresh_tray, no_tray, no_record, keepers_right, set_up_refusal, start_refusal, start_rule};
 ghost use Rattle.desk.specs.StartInPlace.{kept_in};
 
-use desk::{Counts, Place, Plan, Record, Tray};
+use desk::{Cell, Counts, Place, Plan, Record, Tray};
 use desk_acts::{cells_of, desk_index};
 use desk_parts::{
     clear_own, clear_own_seat, keep_own, own_counts, own_desk, own_place, put_own_desk,
@@ -30,6 +30,7 @@ pub fn start(v: &mut Record, plan: Plan, desk: u32) -> u32
 }
 
 // All zero: what a refusal leaves, and what a fresh record is made from.
+#[tactic(auto, unfolding(desk::specs::Start::no_record))]
 fn clear(v: &mut Record)
     ensures { v.new ≡ no_record }
 {
@@ -42,6 +43,8 @@ fn clear(v: &mut Record)
 fn clear_row(v: &mut Record)
     ensures { v.new ≡ with_row v.old (replicate 32 no_cell) }
 {
+    // Read as a slice, the row shows the proof its length.
+    let _row: &[Cell] = &v.row;
     let mut c: usize = 0;
     while c < 32 {
         clear_own(v, c);
@@ -65,6 +68,7 @@ fn keep(v: &mut Record)
     }
 }
 
+#[tactic(auto, unfolding(desk::specs::Start::no_tray))]
 pub fn no_tray() -> Tray
     ensures { result ≡ no_tray }
 {
@@ -72,6 +76,7 @@ pub fn no_tray() -> Tray
 }
 
 // What setting up refuses, then a number that is no desk; 0 where nothing is wrong.
+#[tactic(auto, unfolding(desk::specs::Start::start_refusal, desk::specs::Start::start_lines, desk::specs::Start::set_up_refusal, desk::specs::Start::set_up_lines, theory_refusals::specs::Refusals::first_of))]
 fn start_refusal(plan: Plan, desk: u32) -> u32
     ensures { result ≡ start_refusal plan desk }
 {
@@ -99,6 +104,7 @@ fn keepers_right(plan: Plan) -> bool
 }
 
 // What setting up refuses; 0 where nothing is wrong.
+#[tactic(auto, unfolding(desk::specs::Start::set_up_refusal, desk::specs::Start::set_up_lines, theory_refusals::specs::Refusals::first_of))]
 pub fn refusal(plan: Plan) -> u32
     ensures { result ≡ set_up_refusal plan }
 {

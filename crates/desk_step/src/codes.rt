@@ -9,6 +9,7 @@ use desk::{Event, Message, Seat, Slot, Tray};
 use desk_acts::answer_kind;
 use desk_refusals::{is_own, seat_refusal};
 
+#[tactic(auto, unfolding(desk::specs::Rules::event_lines, theory_refusals::specs::Refusals::first_of))]
 pub fn event_code(sound: bool, t: Tray, desk: u8, s: Seat, e: Event) -> u32
     requires { sound ≡ true → (desk < 8) × (t.counts.cells ≤ 32) }
     ensures { result ≡ first_of (event_lines sound t desk s e) }
@@ -22,6 +23,7 @@ pub fn event_code(sound: bool, t: Tray, desk: u8, s: Seat, e: Event) -> u32
     seat_refusal(t, desk, s, e)
 }
 
+#[tactic(auto, unfolding(desk::specs::Rules::serve_lines, theory_refusals::specs::Refusals::first_of))]
 pub fn serve_code(sound: bool, t: Tray, desk: u8, m: Message) -> u32
     requires { sound ≡ true → t.counts.cells ≤ 32 }
     ensures { result ≡ first_of (serve_lines sound t desk m) }
@@ -35,6 +37,7 @@ pub fn serve_code(sound: bool, t: Tray, desk: u8, m: Message) -> u32
     0
 }
 
+#[tactic(auto, unfolding(desk::specs::Rules::bring_lines, theory_refusals::specs::Refusals::first_of))]
 pub fn bring_code(sound: bool, t: Tray, desk: u8, s: Seat, m: Message) -> u32
     requires { sound ≡ true → s.slot.kind < 3 }
     ensures { result ≡ first_of (bring_lines sound t desk s m) }
@@ -52,6 +55,7 @@ pub fn bring_code(sound: bool, t: Tray, desk: u8, s: Seat, m: Message) -> u32
 }
 
 // Whether a message has the tray's desk count, and no clock number past it.
+#[tactic(auto, unfolding(desk::specs::Rules::in_tray))]
 fn in_tray(t: Tray, m: Message) -> bool
     ensures { result ≡ in_tray t m }
 {
@@ -60,6 +64,7 @@ fn in_tray(t: Tray, m: Message) -> bool
     (m.desks == desks) & clock.within(desks)
 }
 
+#[tactic(auto, unfolding(desk::specs::Rules::request_fits, desk::specs::Desk::keeps))]
 fn request_fits(t: Tray, desk: u8, m: Message) -> bool
     requires { t.counts.cells ≤ 32 }
     ensures { result ≡ request_fits t desk m }
@@ -76,6 +81,7 @@ fn request_fits(t: Tray, desk: u8, m: Message) -> bool
         & keeps(t, desk, c)
 }
 
+#[tactic(auto, unfolding(desk::specs::Rules::answer_fits))]
 fn answer_fits(t: Tray, desk: u8, s: Slot, m: Message) -> bool
     requires { s.kind < 3 }
     ensures { result ≡ answer_fits t desk s m }

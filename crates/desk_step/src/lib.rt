@@ -1,6 +1,6 @@
 #![tactic(auto)]
 // A desk's three steps where its record lies: a step names the cells that it touches, and nothing large is copied.
-ghost use Rattle.std.specs.Prelude.{◌≡◌, ◌<◌, ◌≤◌};
+ghost use Rattle.std.specs.Prelude.{◌≡◌, ◌<◌, ◌≤◌, length};
 ghost use Rattle.desk.specs.Desk.{cell_at, place_at};
 ghost use Rattle.desk.specs.InPlace.{lost_in, loss_in, store_in, take_answer, take_in};
 ghost use Rattle.desk.specs.Rules.{answer_of, event_refusal, event_done, event_rule, serve_refusal, serve_done, serve_rule};
@@ -27,7 +27,7 @@ mod codes;
 // The first n cells, which are the tray's.
 fn own_used(v: &mut Record, d: usize, n: usize) -> Sum
     requires { n ≤ 32 }
-    ensures { (result ≡ used_sum (place_at v.old.tray) (cell_at v.old.row) d no_sum n) × (v.new ≡ v.old) }
+    ensures { (result ≡ used_sum (place_at v.old.tray) (cell_at v.old.row) d no_sum n) × (v.new ≡ v.old) × (0 < n → length v.old.row ≡ 32) }
 {
     let mut sum = no_sum();
     let mut c: usize = 0;
@@ -41,7 +41,7 @@ fn own_used(v: &mut Record, d: usize, n: usize) -> Sum
 // The others, which are not.
 fn own_past(v: &mut Record, n: usize, s: Sum) -> Sum
     requires { n ≤ 32 }
-    ensures { (result ≡ past_sum (cell_at v.old.row) n s 32) × (v.new ≡ v.old) }
+    ensures { (result ≡ past_sum (cell_at v.old.row) n s 32) × (v.new ≡ v.old) × (n < 32 → length v.old.row ≡ 32) }
 {
     let mut sum = s;
     let mut c = n;
@@ -66,7 +66,7 @@ fn sound(v: &mut Record) -> bool
 // The desk loses its copies strictly before a clock that it learns; how many.
 fn lose(v: &mut Record, learnt: Clock) -> u32
     requires { v.old.tray.counts.cells ≤ 32 }
-    ensures { (result ≡ loss_in v.old learnt) × (v.new ≡ lost_in v.old learnt) }
+    ensures { (result ≡ loss_in v.old learnt) × (v.new ≡ lost_in v.old learnt) × (0 < v.old.tray.counts.cells → length v.old.row ≡ 32) }
 {
     let d = desk_index(own_desk(v));
     let n = cells_of(own_counts(v));
@@ -119,7 +119,7 @@ fn own(v: &mut Record, e: Event) -> Answer
 // just stored is not read back at once.
 fn take_write(v: &mut Record, m: Message) -> Answer
     requires { serve_refusal v.old m ≡ 0 }
-    ensures { (result ≡ take_answer v.old m) × (v.new ≡ take_in v.old m) }
+    ensures { (result ≡ take_answer v.old m) × (v.new ≡ take_in v.old m) × (length v.old.row ≡ 32) }
 {
     let s = took(own_seat(v), sent_clock(m));
     store(v, named_cell(m), s, sent_word(m));

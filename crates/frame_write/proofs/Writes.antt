@@ -1,18 +1,42 @@
 -- What writing comes to: a fault of the head, the refusals that are left where it has none, and the frame in two parts.
 -- Assumes nothing.
-use borrow.Author.Tests.{ltb-true, ltb-false, lt-ltb, le-ltb}
-use native.Mathlib.Omega.{arith}
-use mathlib.Core.Path.{◌≡◌, refl, sym, ap, ap₂, ◌∙◌}
-use mathlib.Core.Bool.{Bool, true, false, ◌&&◌, ◌||◌}
-use mathlib.Core.List.{List, ◌∷◌, ◌++◌}
-use Prim.Native.Nat.{ℕ, suc, ◌+◌, ◌*◌, ◌<◌, ◌≤◌}
-use lib.Dec.{eqb, ltb}
-use lib.ListN.{length, get_or, drop}
+use Rattle.std.proofs.Common.{
+  ◌≡◌,
+  ℕ,
+  suc,
+  ◌+◌,
+  ◌*◌,
+  ◌<◌,
+  ◌≤◌,
+  Bool,
+  true,
+  false,
+  ◌&&◌,
+  ◌||◌,
+  List,
+  ◌∷◌,
+  ◌++◌,
+  length,
+  get_or,
+  drop,
+  refl,
+  sym,
+  ap,
+  ap₂,
+  ◌∙◌,
+  arith,
+  eqb,
+  ltb,
+  ltb-true,
+  ltb-false,
+  lt-ltb,
+  le-ltb,
+}
 use Rattle.theory_lists.specs.Each.{map_at, map_at-same}
 use Rattle.theory_lists.specs.Test.{every}
 use Rattle.spelling.specs.Bytes.{bytes, spell, put, put_next}
 use Rattle.desk.specs.declared.Message.{Message}
-use Rattle.frame.specs.Frame.{carried, length_of, fault_in, carried_or_zero, well_formed, frame_of, write_rule, output_rule}
+use Rattle.frame.specs.Frame.{carried, length_of, fault_in, carried_or_zero, well_formed, write_rule, output_rule}
 use Rattle.frame.specs.Laws.{faulty, faultless, called, head_of, body_of, frame-split, not-well-formed, no_room_lem, can_write, write-refused, write-accepted}
 
 -- ---- the numbers that are not carried

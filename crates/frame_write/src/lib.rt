@@ -32,6 +32,7 @@ pub fn write(
 
 // A read asked: its frame is the head alone. (What it must not have comes first: were the parts in `write`'s order, the compiler would load them before it
 // looks at the kind, and save registers for them.)
+#[tactic(auto, using(crate::proofs::Asked::refused_told, crate::proofs::Asked::refused_kept))]
 pub fn bare(out: &mut [u8], clock: Clock, word: u32, desks: u8, desk: u8, cell: u8) -> Written
     ensures { (result ≡ write_rule (given 1 desks desk cell word clock) out.old) × (out.new ≡ output_rule (given 1 desks desk cell word clock) out.old) }
 {

@@ -6,10 +6,9 @@ ghost use Rattle.std.specs.Io.KnownBytes.{Appends, Consumes, IsAtEnd};
 ghost use Rattle.text.specs.Script.{answer as script_answer};
 ghost use Rattle.script.specs.Rules.{set_up, event};
 
-use std::fmt;
 use std::fmt::{Debug, Formatter};
-use std::io;
 use std::io::{ErrorKind, Read, Write};
+use std::{fmt, io};
 
 // Which of the two failed.
 #[derive(Drop)]
@@ -38,16 +37,10 @@ fn respond<R: Read, W: Write>(from: &mut R, to: &mut W) -> Result<(), Failure>
 {
     // one byte more than an input may have
     let mut space = [0u8; 65537];
-    let count = match read_all(from, &mut space) {
-        Ok(n) => n,
-        Err(e) => return Err(Failure::Input(e)),
-    };
+    let count = read_all(from, &mut space).map_err(Failure::Input)?;
     let mut out = [0u8; 270400];
     let n = script::answer(&space[..count], &mut out);
-    match to.write_all(&out[..n]) {
-        Ok(()) => Ok(()),
-        Err(e) => Err(Failure::Output(e)),
-    }
+    to.write_all(&out[..n]).map_err(Failure::Output)
 }
 
 // Reads until the input ends or buf is full, and again where a signal came between.

@@ -1,28 +1,27 @@
 -- What the code changes where the table lies: a cell, a seat, a sweep over a desk's cells. Each is a record of the same desk put back, so that what is
 -- done step by step is a desk's rule on its record.
 -- Assumes nothing.
-use Rattle.std.specs.Prelude.{◌≡◌, Bool, false, ◌&&◌, not, ℕ, ◌+◌, ◌*◌, ◌≤◌, ◌<◌, length}
+use Rattle.std.specs.Prelude.{◌≡◌, Bool, false, ℕ, ◌+◌, ◌*◌, ◌≤◌, ◌<◌}
 use Rattle.std.proofs.Math.Path.{refl, sym}
-use Rattle.std.proofs.Common.{ap, ◌∙◌, arith, add-zero, add-one, lt-ltb, length-set}
+use Rattle.std.proofs.Common.{ap, ◌∙◌, arith, add-zero, add-one, lt-ltb}
 use Rattle.std.proofs.Math.Bool.{true}
 use Rattle.std.proofs.Math.ListN.{set}
-use Rattle.std.proofs.Math.Seq.{slice, paste}
 use Rattle.clock.specs.declared.Clock.{Clock}
 use Rattle.desk.specs.declared.Cell.{Cell}
 use Rattle.desk.specs.declared.Record.{Record}
 use Rattle.desk.specs.declared.Seat.{Seat}
-use Rattle.desk.specs.Desk.{no_cell, past_cell, past_seat, cell_at, place_at, kept_by, keeps, is_copy, is_lost, left_at, left_of, loss_of}
+use Rattle.desk.specs.Desk.{no_cell, past_cell, past_seat, cell_at, place_at, kept_by, keeps, is_copy, is_lost, left_of, loss_of}
 use Rattle.desk.specs.Parts.{loses_if}
 use Rattle.desk.specs.Rules.{with_seat, with_row, holds}
 use Rattle.desk.specs.SameDesk.{SameDesk}
-use Rattle.desk.specs.SoundLaws.{RowRule, no_way}
+use Rattle.desk.specs.SoundLaws.{RowRule}
 use Rattle.theory_lists.specs.Part.{paste-slice, paste-paste, set-in-part, set_same, set_twice}
 use Rattle.theory_lists.specs.Swept.{swept, swept_count, count_small, swept-row, swept-count}
 use Rattle.theory_lists.specs.Test.{both_left, fails}
 use Rattle.table.specs.declared.Table.{Table}
 use Rattle.table.specs.Rows.{Sized, row-length}
 use Rattle.table.specs.SoundLaws.{entry-is}
-use Rattle.table.specs.Table.{seat_of, record_of, put_back}
+use Rattle.table.specs.Table.{record_of, put_back}
 
 -- entry i is x; desk d's seat is s
 abbrev pub with_cell : Table → ℕ → Cell → Table

@@ -1,7 +1,7 @@
 -- Promises that leave no choice. A promise of this library says that a result is what a definition gives. So two results that meet it are
 -- equal, and an engine that meets the event's gives exactly the rules' replies and tables over whole runs. Four engines do not meet it.
 -- Assumes nothing.
-use Rattle.std.specs.Prelude.{◌≡◌, refl, true, List, [], ◌∷◌, map, ℕ, ◌<◌, get_or, replicate}
+use Rattle.std.specs.Prelude.{◌≡◌, refl, List, [], ◌∷◌, map, ℕ, ◌<◌, get_or, replicate}
 use Rattle.std.proofs.Common.{sym, ap, ap₂, ◌∙◌, arith}
 use Rattle.clock.specs.Clock.{is_within, raised}
 use Rattle.desk.specs.declared.Event.{Event}
@@ -12,13 +12,12 @@ use Rattle.desk.specs.Rules.{seat_lines, event_done, read_rule, write_rule}
 use Rattle.desk.specs.Sound.{counts_sound, place_sound, tray_sound, word_fits, sent_fits, cell_fits, cell_sound, slot_sound, slot_names, slot_carries, seat_sound}
 use Rattle.desk.specs.Start.{keepers_right, fresh_tray, set_up_lines, set_up_refusal}
 use Rattle.theory_lists.specs.Each.{map_at}
-use Rattle.theory_lists.specs.Test.{every, both}
+use Rattle.theory_lists.specs.Test.{every}
 use Rattle.theory_refusals.specs.Refusals.{first_of, unless}
 use Rattle.table.specs.declared.Outcome.{Outcome}
 use Rattle.table.specs.declared.Table.{Table}
 use Rattle.table.specs.Fresh.{set-up-room}
-use Rattle.table.specs.Kept.{event-sound}
-use Rattle.table.specs.Room.{Room, event-room}
+use Rattle.table.specs.Room.{Room}
 use Rattle.table.specs.Rules.{lines, refusal, outcome, own_rule, done, event_rule}
 use Rattle.table.specs.SetUp.{fresh_table, set_up_rule}
 use Rattle.table.specs.Sound.{entry_sound, cells_sound, seats_sound, table_sound}
@@ -45,7 +44,7 @@ abbrev pub Meets : Engine → Type 0
 Meets E = (t : Table) (e : Event) → Room t → E t e ≡ event_rule t e
 
 -- an engine that agrees with the rule on tables of some kind, which the rule keeps of that kind
-run_on : (Of : Table → Type 0) → ((t : Table) (e : Event) → Of t → Of (event_rule t e).after)
+pub run_on : (Of : Table → Type 0) → ((t : Table) (e : Event) → Of t → Of (event_rule t e).after)
     → (E : Engine) → ((t : Table) (e : Event) → Of t → E t e ≡ event_rule t e)
     → (t : Table) (es : List Event) → Of t → run E t es ≡ run event_rule t es
 unfolding run
@@ -55,21 +54,10 @@ run_on Of kept E meets t (e ∷ es) of =
     ap₂ ◌∷◌ same
     (ap (λ (o : Outcome). run E o.after es) same ∙ run_on Of kept E meets (event_rule t e).after es (kept t e of))
 
-pub run_is : (E : Engine) → Meets E → (t : Table) (es : List Event) → Room t → run E t es ≡ run event_rule t es
-run_is = run_on Room event-room
-
 -- the same of lists of any length in a table's place
 pub run-any : (E : Engine) → ((t : Table) (e : Event) → E t e ≡ event_rule t e)
     → (t : Table) (es : List Event) → run E t es ≡ run event_rule t es
 run-any E meets t es = run_on (λ _. Unit {0}) (λ _ _ _. tt) E (λ t e _. meets t e) t es tt
-
--- a run that starts from a sound table has sound tables only: soundness need be tested but once
-pub run_sound : (t : Table) (es : List Event) → Room t → table_sound t ≡ true
-    → every (map (λ (o : Outcome). table_sound o.after) (run event_rule t es)) ≡ true
-unfolding run every
-run_sound t [] z ok = refl
-run_sound t (e ∷ es) z ok =
-    both (event-sound t e z ok) (run_sound (event_rule t e).after es (event-room t e z) (event-sound t e z ok))
 
 -- ---- four engines that do not meet it
 -- one desk, one cell, as set up, and an event of that desk and cell

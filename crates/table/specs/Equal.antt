@@ -21,7 +21,7 @@ use Rattle.desk.specs.RuleLaws.{allowed, answered-kind}
 use Rattle.desk.specs.Rules.{with_slot, slot_message, read_asked, write_asked, refused, event_refusal, event_done, takes, read_served, write_served, serve_done}
 use Rattle.desk.specs.Rules.{in_tray, request_fits, serve_lines, serve_refusal, answer_fits, brings, bring_done, bring_lines, bring_refusal}
 use Rattle.desk.specs.Rules as rules
-use Rattle.desk.specs.SameDesk.{serve-answers, event-same, bring-same}
+use Rattle.desk.specs.SameDesk.{event-same, bring-same}
 use Rattle.desk.specs.Sound.{is_sound}
 use Rattle.desk.specs.SoundLaws.{SlotRule, rule-word, rule-sent, rule-sound}
 use Rattle.desk.specs.StepLaws.{event-told}
@@ -31,12 +31,11 @@ use Rattle.table.specs.declared.Outcome.{Outcome}
 use Rattle.table.specs.declared.Table.{Table}
 use Rattle.table.specs.Room.{Room}
 use Rattle.table.specs.Rows.{Sized, row-length, put_same}
-use Rattle.table.specs.RuleLaws.{kind-waits, Passed, pass, is-take, is-bring, is-own-rule, Asks, here, take-asks, answer-waits, slot_is, own-sound, own-passes}
-use Rattle.table.specs.Rules.{refusal, outcome, message_of, answer_slot, answered, keeper_step, take_rule, bring_rule, own_rule, event_rule}
+use Rattle.table.specs.RuleLaws.{kind-waits, Passed, pass, is-bring, is-own-rule, Asks, here, take-asks, answer-waits, slot_is, own-sound, own-passes}
+use Rattle.table.specs.Rules.{refusal, outcome, message_of, answer_slot, answered, keeper_step, bring_rule, own_rule, event_rule}
 use Rattle.table.specs.Sound.{table_sound}
 use Rattle.table.specs.SoundLaws.{TableRule, table-rule, desk-below}
 use Rattle.table.specs.Table.{slot_of, keeper_for, record_of}
-use Rattle.table.specs.Touch.{asker-after, keeper-after}
 
 -- ---- a desk's own record, where "a full slot stays asked until the answer is brought"
 -- The clock that a write was sent with is gone once it is answered. Bringing does not look at it, so any serves that is not all zeros. (The stamp
@@ -144,7 +143,7 @@ unfolding bring_done brings
 bring-asking v m = refl
 
 -- the message of an answered slot is the answer that was put there
-answer-message : (v : Record) (m : Message) → m.desks ≡ v.tray.counts.desks → m.desk ≡ v.desk
+pub answer-message : (v : Record) (m : Message) → m.desks ≡ v.tray.counts.desks → m.desk ≡ v.desk
     → slot_message (answered v (answer_slot m)) (answer_slot m) ≡ m
 answer-message v m p q =
     λ i. record { kind = m.kind; desks = sym p i; desk = sym q i; cell = m.cell; word = m.word; clock = m.clock }
@@ -196,26 +195,13 @@ module _ (t : Table) (e : Event) (room : Room t) (none : refusal t e ≡ 0) wher
             (ap not (ne_eqb e.desk (keeper_for t e.desk) (λ q. asks.another (sym q))))))
             asks.keeps-it
 
-    serves : keeper_serves t e.desk ≡ asking_step (keeper_step t e.desk)
+    pub serves : keeper_serves t e.desk ≡ asking_step (keeper_step t e.desk)
     unfolding rules.serve_rule record_of keeper_step
     serves =
         let v = record_of t (keeper_for t e.desk) in
         let m = message_of t e.desk in
         unless-done (serve_refusal (asking v) m) (refused (asking v)) (serve_done (asking v) m) take-fits
         ∙ serve-asking v m (a.sound.row_is v.desk (desk-below t a.sound v.desk asks.keeper-is)).seat-is.slot_is.kind-most
-
-    pub take-does : Does (event_rule t e) (keeper_for t e.desk) (keeper_serves t e.desk)
-    unfolding take_rule
-    take-does = rw (is-take t e none k, serves) (record { same-reply = refl; same-record = ap asking (keeper-after t e z a k) })
-
-    pub take-answers : message_of (event_rule t e).after e.desk ≡ (keeper_serves t e.desk).message
-    unfolding message_of record_of keeper_step
-    take-answers =
-        let v = record_of t e.desk in
-        let names = serve-answers (record_of t (keeper_for t e.desk)) (message_of t e.desk) in
-        rw (is-take t e none k, serves)
-        (ap (λ (w : Record). slot_message w w.seat.slot) (asker-after t e z a k)
-        ∙ answer-message v (keeper_step t e.desk).message names.answer-desks names.answer-desk)
 
   -- 4 Bring is the desk's bring
   module _ (k : e.kind ≡ 4) where

@@ -17,7 +17,6 @@ use Rattle.desk.specs.StartLaws.{settled, fresh-tray, fresh-length, fresh-cell, 
 use Rattle.theory_lists.specs.Each.{length-map_at, get_or-map_at}
 use Rattle.theory_refusals.specs.Refusals.{Line, first_of, numbers_from, first_more, unless-done, unless-either}
 use Rattle.table.specs.declared.SetUp.{SetUp}
-use Rattle.table.specs.declared.Table.{Table}
 use Rattle.table.specs.Room.{Room}
 use Rattle.table.specs.Rows.{Sized, row-length}
 use Rattle.table.specs.SetUp.{fresh_cell, fresh_table, no_table, not_set_up, set_up_rule}

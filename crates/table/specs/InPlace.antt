@@ -1,15 +1,14 @@
 -- The owner rules as the code does them where the table lies: cell by cell and seat by seat. Each is the rule, for an event that is not refused.
 -- Assumes nothing.
-use Rattle.std.specs.Prelude.{◌≡◌, Bool, ◌&&◌, cond, ℕ, ◌+◌, ◌*◌, ◌<◌, eqb, length, get_or, set}
+use Rattle.std.specs.Prelude.{◌≡◌, Bool, cond, ℕ, ◌+◌, ◌*◌, ◌<◌, eqb}
 use Rattle.std.proofs.Math.Path.{refl, sym, ap}
-use Rattle.std.proofs.Common.{ap₂, ◌∙◌, arith}
+use Rattle.std.proofs.Common.{◌∙◌, arith}
 use Rattle.std.proofs.Math.Bool.{true, false}
 use Rattle.std.proofs.Math.Logic.{⊎_elim}
 use borrow.Author.Tests.{eqb-true, eqb-false, eq-eqb, ne_eqb, lt-ltb}
 use Rattle.std.proofs.Math.ListN.{length-set}
 use Rattle.std.proofs.Math.Seq.{get_or-set_same}
-use Rattle.clock.specs.declared.Clock.{Clock}
-use Rattle.clock.specs.Clock.{merged, raised}
+use Rattle.clock.specs.Clock.{raised}
 use Rattle.desk.specs.declared.Cell.{Cell}
 use Rattle.desk.specs.declared.Event.{Event}
 use Rattle.desk.specs.declared.Message.{Message}
@@ -18,21 +17,20 @@ use Rattle.desk.specs.declared.Reply.{Reply}
 use Rattle.desk.specs.declared.Seat.{Seat}
 use Rattle.desk.specs.declared.Step.{Step}
 use Rattle.desk.specs.Parts.{change_of, asked_for, asking_seat, raised_seat, read_reply, write_reply, own_reply, took_seat, answered_seat, home_seat, brought_cell, brought_reply}
-use Rattle.desk.specs.Desk.{Word, no_word, is_blank, no_cell, past_cell, cell_at, place_at, kept_by, keeps, held_cell, is_copy, left_at, left_of, loss_of, answer_kind, is_own}
+use Rattle.desk.specs.Desk.{Word, no_word, no_cell, past_cell, cell_at, place_at, kept_by, keeps, held_cell, is_copy, left_at, left_of, loss_of, is_own}
 use Rattle.desk.specs.Kept.{holds_row, no-cell-rule}
 use Rattle.desk.specs.RuleLaws.{own_is, asked-kind}
-use Rattle.desk.specs.Rules.{with_clock, with_slot, with_seat, with_row, holds, shown_code, marked_served, takes, read_served, write_served, serve_done, brings, bring_done}
-use Rattle.desk.specs.Rules.{read_asked, write_asked, next_clock, read_rule, write_rule, drop_rule, event_done}
+use Rattle.desk.specs.Rules.{with_slot, with_seat, with_row, holds, takes, read_served, write_served, serve_done, brings, bring_done}
+use Rattle.desk.specs.Rules.{read_asked, write_asked, read_rule, write_rule, drop_rule, event_done}
 use Rattle.desk.specs.SameDesk.{SameDesk, seat-same, takes_same, serve-same}
 use Rattle.desk.specs.SoundLaws.{RowRule}
 use Rattle.theory_lists.specs.Each.{length-map_at}
-use Rattle.table.specs.declared.Outcome.{Outcome}
 use Rattle.table.specs.declared.Table.{Table}
 use Rattle.table.specs.Changes.{with_cell, with_seat_of, lost_of, lost_count, put-none, cell-put, seat-put, lost-put, lost-count, put-put}
 use Rattle.table.specs.Rows.{Sized, row-length, put-sized, put_same, put_other}
 use Rattle.table.specs.RuleLaws.{Passed, pass, own-kind, here, take-asks, bring-asks, take-there, bring-there, own-there}
-use Rattle.table.specs.Rules.{message_of, outcome, answer_slot, answered, put_answer, keeper_step, take_rule, bring_rule, own_rule, refusal, done}
-use Rattle.table.specs.SoundLaws.{entry-is, desk-below}
+use Rattle.table.specs.Rules.{message_of, outcome, answer_slot, put_answer, keeper_step, take_rule, bring_rule, own_rule, refusal, done}
+use Rattle.table.specs.SoundLaws.{entry-is}
 use Rattle.table.specs.Table.{seat_of, slot_of, keeper_for, record_of, put_back}
 
 -- ---- one change after others of the same desk
@@ -129,13 +127,13 @@ module _ (t : Table) (e : Event) (a : Passed t e) (k : e.kind ≡ 3) where
       (record { same-tray = refl; same_number = refl; same_length = same.same_length }) (slot_of t d).cell stored cell_below
 
   -- the keeper has served: its record is put back, and what it holds is what it answers with
-  record Serves (u : Table) (step : Step) : Type 0 where
-    put : u ≡ put_back t step.after
-    shows : answered_seat (seat_of t d) (cell_at u.cells (by * 32 + (slot_of t d).cell))
+  pub record Serves (u : Table) (step : Step) : Type 0 where
+    pub put : u ≡ put_back t step.after
+    pub shows : answered_seat (seat_of t d) (cell_at u.cells (by * 32 + (slot_of t d).cell))
         ≡ with_slot (seat_of t d) (answer_slot step.message) (seat_of t d).served
 
   -- the answer stands in the asker's slot
-  answer-in : (u : Table) → Serves u (keeper_step t d)
+  pub answer-in : (u : Table) → Serves u (keeper_step t d)
       → with_seat_of u d (answered_seat (seat_of t d) (cell_at u.cells (by * 32 + (slot_of t d).cell))) ≡ (take_rule t d).after
   unfolding take_rule put_answer keeper_step record_of
   answer-in u s =
@@ -155,7 +153,7 @@ module _ (t : Table) (e : Event) (a : Passed t e) (k : e.kind ≡ 3) where
       sym (entry-is (put_back t w) by (slot_of t d).cell cell_below)
       ∙ ap (λ (x : Record). cell_at x.row (slot_of t d).cell) (put_same t by w z by-below same)
 
-  write-serves : (slot_of t d).kind ≡ 2 → Serves (served_in t d) (keeper_step t d)
+  pub write-serves : (slot_of t d).kind ≡ 2 → Serves (served_in t d) (keeper_step t d)
   unfolding served_in keeper_step serve_done write_served message_of record_of takes left_of
   write-serves q =
       let w = takes keeper m in
@@ -169,7 +167,7 @@ module _ (t : Table) (e : Event) (a : Passed t e) (k : e.kind ≡ 3) where
         shows = ap (λ (u : Table). answered_seat (seat_of t d) (cell_at u.cells (by * 32 + (slot_of t d).cell))) write-in ∙ ap (answered_seat (seat_of t d)) shown;
       })
 
-  read-serves : (slot_of t d).kind ≡ 1 → Serves (served_in t d) (keeper_step t d)
+  pub read-serves : (slot_of t d).kind ≡ 1 → Serves (served_in t d) (keeper_step t d)
   unfolding served_in keeper_step serve_done read_served message_of record_of
   read-serves q =
       rw (ne_eqb (slot_of t d).kind 2 (omega arith), eq-eqb (slot_of t d).kind 1 q)
@@ -177,10 +175,6 @@ module _ (t : Table) (e : Event) (a : Passed t e) (k : e.kind ≡ 3) where
         put = sym (put-none t by z by-below);
         shows = ap (answered_seat (seat_of t d)) (sym (entry-is t by (slot_of t d).cell cell_below));
       })
-
-  pub take_in_lem : take_in t d ≡ (take_rule t d).after
-  unfolding take_in
-  take_in_lem = answer-in (served_in t d) (⊎_elim read-serves write-serves (asked-kind (slot_of t d) (a.seat.asked k)))
 
   pub take-reply : take_reply t d ≡ (take_rule t d).reply
   unfolding take_count take_rule keeper_step serve_done read_served write_served message_of record_of
@@ -368,10 +362,6 @@ module _ (t : Table) (e : Event) (a : Passed t e) (o : is_own e ≡ true) where
 module _ (t : Table) (e : Event) (z : Sized t) (none : refusal t e ≡ 0) where
   abbrev passed : Passed t e
   passed = pass t e z none
-
-  pub done-take : eqb e.kind 3 ≡ true → (take_reply t e.desk ≡ (done t e).reply) × (take_in t e.desk ≡ (done t e).after)
-  unfolding done
-  done-take q = let k = eqb-true e.kind 3 q in rw q (take-reply t e passed k, take_in_lem t e passed k)
 
   module _ (p : eqb e.kind 3 ≡ false) where
     pub done-bring : eqb e.kind 4 ≡ true → (bring_reply t e.desk ≡ (done t e).reply) × (bring_in t e.desk ≡ (done t e).after)

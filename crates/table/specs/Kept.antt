@@ -1,4 +1,4 @@
--- Every event keeps a sound table sound.
+-- Each of the three ways to do an event keeps a sound table sound. The theorem stands in `Kept` of proofs.
 -- Assumes nothing.
 use Rattle.std.specs.Prelude.{◌≡◌, true, ◌⊎◌, ℕ, ◌≤◌, ◌<◌, length}
 use Rattle.std.proofs.Math.Logic.{⊎_elim}
@@ -16,14 +16,12 @@ use Rattle.desk.specs.RuleLaws.{allowed, asked-kind}
 use Rattle.desk.specs.Rules.{with_slot, event_done, takes, read_served, write_served, serve_done, bring_done}
 use Rattle.desk.specs.SameDesk.{SameDesk, seat-same, Answers, serve-answers, event-same, serve-same, bring-same}
 use Rattle.desk.specs.SoundLaws.{SlotRule, RowRule}
-use Rattle.table.specs.declared.Outcome.{Outcome}
 use Rattle.table.specs.declared.Table.{Table}
 use Rattle.table.specs.Room.{Room}
 use Rattle.table.specs.Rows.{row-length, put-sized, put_same, put_other}
-use Rattle.table.specs.RuleLaws.{kind-waits, Passed, each-event, Asks, here, take-asks, bring-asks, slot_is, own-sound, own-passes}
-use Rattle.table.specs.Rules.{outcome, message_of, answer_slot, answered, put_answer, keeper_step, take_rule, bring_rule, own_rule, event_rule}
-use Rattle.table.specs.Sound.{table_sound}
-use Rattle.table.specs.SoundLaws.{TableRule, table-rule, rule-table, desk-below}
+use Rattle.table.specs.RuleLaws.{kind-waits, Passed, Asks, here, take-asks, bring-asks, slot_is, own-sound, own-passes}
+use Rattle.table.specs.Rules.{outcome, message_of, answer_slot, answered, put_answer, keeper_step, take_rule, bring_rule, own_rule}
+use Rattle.table.specs.SoundLaws.{TableRule, desk-below}
 use Rattle.table.specs.Table.{slot_of, keeper_for, record_of, put_back}
 
 -- what a desk's step leaves goes back into its place
@@ -80,7 +78,7 @@ module _ (v : Record) (m : Message) (there : v.desk < v.tray.counts.desks) (r : 
 
 -- ---- the three ways to do an event
 module _ (t : Table) (e : Event) (z : Room t) (a : Passed t e) where
-  own-kept : is_own e ≡ true → TableRule (own_rule t e).after
+  pub own-kept : is_own e ≡ true → TableRule (own_rule t e).after
   unfolding own_rule outcome
   own-kept o =
       let v = record_of t e.desk in
@@ -88,7 +86,7 @@ module _ (t : Table) (e : Event) (z : Room t) (a : Passed t e) where
       (event-kept v (row-length t e.desk z.sized (here t e a)) (z.clocks e.desk (here t e a)) (own-sound t e a o) e
       (allowed v e (own-passes t e a o))).row_is
 
-  bring-kept : e.kind ≡ 4 → TableRule (bring_rule t e.desk).after
+  pub bring-kept : e.kind ≡ 4 → TableRule (bring_rule t e.desk).after
   unfolding bring_rule outcome bring_done message_of record_of
   bring-kept k =
       let v = record_of t e.desk in
@@ -98,7 +96,7 @@ module _ (t : Table) (e : Event) (z : Room t) (a : Passed t e) where
       put-kept t e.desk (bring_done v m).after a.sound (here t e a) (bring-same v m)
       (brings-row v m a.desk-is (a.sound.row_is e.desk (here t e a)) asking.cell-is slot.clock-past asking.not-kept slot.no-word)
 
-  take-kept : e.kind ≡ 3 → TableRule (take_rule t e.desk).after
+  pub take-kept : e.kind ≡ 3 → TableRule (take_rule t e.desk).after
   unfolding take_rule keeper_step message_of record_of put_back
   take-kept k =
       answer-kept (put_back t (serve_done keeper m).after) e.desk (serve_done keeper m).message keeper-kept (here t e a) answer-is
@@ -143,9 +141,3 @@ module _ (t : Table) (e : Event) (z : Room t) (a : Passed t e) where
           full-rule t.tray e.desk s (omega (arith, kinds.0)) kinds.1
           (a.desk-is, rw names.answer-cell asking.cell-is) (rw names.answer-cell asking.not-kept)
           served.past served.no-word (λ q. absurd (omega (arith, kinds.0)))
-
--- ---- the theorem
-pub event-sound : (t : Table) (e : Event) → Room t → table_sound t ≡ true → table_sound (event_rule t e).after ≡ true
-event-sound t e z ok =
-    rule-table (event_rule t e).after
-    (each-event (λ (o : Outcome). TableRule o.after) t e z.sized (table-rule t z.sized ok) (take-kept t e z) (bring-kept t e z) (own-kept t e z))

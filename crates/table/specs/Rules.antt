@@ -1,7 +1,7 @@
 -- The owner rules on the whole table. A desk's own events are the desk's rule on its record; take is the keeper's serve and bring the desk's
 -- bring, with the slot as the message.
 -- Assumes nothing.
-use Rattle.std.specs.Prelude.{Bool, not, cond, List, ◌∷◌, ◌++◌, ℕ, eqb}
+use Rattle.std.specs.Prelude.{not, cond, List, ◌∷◌, ◌++◌, ℕ, eqb}
 use Rattle.desk.specs.declared.Event.{Event}
 use Rattle.desk.specs.declared.Message.{Message}
 use Rattle.desk.specs.declared.Record.{Record}

@@ -7,7 +7,7 @@ use Rattle.desk.specs.declared.Event.{Event}
 use Rattle.desk.specs.declared.Record.{Record}
 use Rattle.desk.specs.declared.Slot.{Slot}
 use Rattle.desk.specs.Rules.{with_slot, event_done, bring_done}
-use Rattle.desk.specs.SameDesk.{SameDesk, seat-same, serve-answers, event-same, serve-same, bring-same}
+use Rattle.desk.specs.SameDesk.{SameDesk, seat-same, event-same, serve-same, bring-same}
 use Rattle.table.specs.declared.Outcome.{Outcome}
 use Rattle.table.specs.declared.Table.{Table}
 use Rattle.table.specs.Rows.{Sized, put-sized, put_same, put_other}
@@ -97,28 +97,7 @@ module _ (t : Table) (e : Event) (z : Sized t) where
         let step = keeper_step t e.desk in
         taken-keeper t z keeper e.desk (keeper-below a k) (here t e a) (apart a k) step.after serve-stays (answer_slot step.message)
 
-  each_take : (P : Outcome → Type 0) → e.kind ≡ 3 → P (refused_with t (refusal t e)) → (Passed t e → P (take_rule t e.desk))
+  pub each_take : (P : Outcome → Type 0) → e.kind ≡ 3 → P (refused_with t (refusal t e)) → (Passed t e → P (take_rule t e.desk))
       → P (event_rule t e)
   each_take P k refuse take =
       each-event P t e z refuse (λ a _. take a) (λ a l. absurd (omega arith)) (λ a o. absurd ((own-else e o).0 k))
-
-  -- the asker: its slot alone
-  pub take-asker : e.kind ≡ 3
-      → record_of (event_rule t e).after e.desk ≡ answered (record_of t e.desk) (record_of (event_rule t e).after e.desk).seat.slot
-  take-asker k =
-      each_take (λ (o : Outcome). record_of o.after e.desk ≡ answered v (record_of o.after e.desk).seat.slot) k refl
-      (λ a. slot-alone (record_of (take_rule t e.desk).after e.desk) (answer_slot (keeper_step t e.desk).message) (asker-after a k))
-    where
-      v : Record
-      v = record_of t e.desk
-
-      slot-alone : (w : Record) (s : Slot) → w ≡ answered v s → w ≡ answered v w.seat.slot
-      slot-alone w s q = rw q
-
-  -- the keeper: its slot not
-  pub take-keeper : e.kind ≡ 3
-      → (record_of (event_rule t e).after (keeper_for t e.desk)).seat.slot ≡ (record_of t (keeper_for t e.desk)).seat.slot
-  unfolding keeper_step
-  take-keeper k =
-      each_take (λ (o : Outcome). (record_of o.after keeper).seat.slot ≡ (record_of t keeper).seat.slot) k refl
-      (λ a. ap (λ (w : Record). w.seat.slot) (keeper-after a k) ∙ (serve-answers (record_of t keeper) (message_of t e.desk)).slot-stays)

@@ -5,7 +5,7 @@ ghost use Rattle.desk.specs.Desk.{no_cell, no_seat};
 ghost use Rattle.table.specs.SetUp.{no_table, set_up_rule};
 ghost use Rattle.table.specs.SetUpInPlace.{Housed, kept_in, with_cells, with_seats};
 
-use desk::Plan;
+use desk::{Cell, Plan, Seat};
 use desk_acts::{at, cells_of, keeper_of};
 use desk_start::{no_tray, refusal, tray};
 use table::{SetUp, Table};
@@ -35,6 +35,7 @@ pub fn made(plan: Plan) -> SetUp
 }
 
 // All zero: what a refusal leaves, and what a fresh table is made from.
+#[tactic(auto, unfolding(table::specs::SetUp::no_table))]
 fn clear(t: &mut Table)
     ensures { t.new ≡ no_table }
 {
@@ -46,6 +47,8 @@ fn clear(t: &mut Table)
 fn clear_cells(t: &mut Table)
     ensures { t.new ≡ with_cells t.old (replicate 256 no_cell) }
 {
+    // Read as a slice, the cells show the proof how many they are.
+    let _cells: &[Cell] = &t.cells;
     clear_cell(t, 0);
     let mut i: usize = 1;
     while i < 256 {
@@ -57,6 +60,8 @@ fn clear_cells(t: &mut Table)
 fn clear_seats(t: &mut Table)
     ensures { t.new ≡ with_seats t.old (replicate 8 no_seat) }
 {
+    // Read as a slice, the seats show the proof how many they are.
+    let _seats: &[Seat] = &t.seats;
     let mut d: usize = 0;
     while d < 8 {
         clear_seat(t, d);

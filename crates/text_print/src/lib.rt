@@ -49,6 +49,7 @@ fn put_ended(n: u32, end: u8, out: &mut [u8], at: usize) -> usize
 }
 
 // The digits of the tenth where that is not 0, and the last digit.
+#[tactic(auto, using(crate::proofs::Digits::digits))]
 fn put_number(n: u32, out: &mut [u8], at: usize) -> usize
     requires { Room (decimal n) out.old at }
     ensures { Put (decimal n) out.old at out.new result }

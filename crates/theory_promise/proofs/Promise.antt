@@ -5,7 +5,8 @@ use Rattle.std.proofs.Common.{sym, ap, ap₂, subst, ◌∙◌}
 use Rattle.theory_causal.proofs.Run as machine
 use Rattle.desk.specs.declared.Event.{Event}
 use Rattle.desk.specs.declared.Plan.{Plan}
-use Rattle.table.specs.Choice.{Engine, run, Meets, run_is}
+use Rattle.table.specs.Choice.{Engine, run, Meets}
+use Rattle.table.proofs.Choice.{run_is}
 use Rattle.table.specs.declared.Outcome.{Outcome}
 use Rattle.table.specs.declared.Table.{Table}
 use Rattle.table.specs.Fresh.{set-up-room}

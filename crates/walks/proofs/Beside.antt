@@ -47,7 +47,7 @@ use Rattle.walks.proofs.Shared.{shares, copied}
 use Rattle.walks.proofs.Walk.{◌⨟◌}
 
 module _ (T U R : Plain) (res : Of T → Of U → Of R) (after : Of T → Of U → Of T) where
-  -- ---- the contract: `ensures { λ r. ⌜ (r ≡ res) × (now v.exit ≡ after) ⌝ }`, of the T at entry and of the U
+  -- ---- the contract: `ensures { (result ≡ res) × (v.new ≡ after) }`, of the T at entry and of the U
   abbrev both_ended : Ended
   both_ended = record {
     signature = record {

@@ -71,7 +71,7 @@ asked_in 𝓤 (where-holds φ) x h = fact_i 𝓤 (φ x) (emp 𝓤) h
 
 -- ---- what a function does
 -- over a lent T: the other parameters, the result, what it asks, what its `ensures` says (`ens`), and that this is one result (`res`) and one
--- value left (`after`). The contract in the source must be, word for word, `requires { ⌜ pre ⌝ }` or none, and one `ensures { λ r. ⌜ ens ⌝ }`
+-- value left (`after`). The contract in the source must be, word for word, `requires { pre }` or none, and one `ensures { ens }`
 pub record LentFn (T : Plain) : Type 2 where
   pub Ps : List Plain
   pub R : Plain
@@ -82,14 +82,14 @@ pub record LentFn (T : Plain) : Type 2 where
   pub says : (t : Of T) (a : Args Ps) (r : Of R) (t' : Of T) → ens t a r t' → (r ≡ res t a) × (t' ≡ after t a)
   pub keeps : (t : Of T) (a : Args Ps) → ens t a (res t a) (after t a)
 
--- by value: `ensures { λ r. ⌜ r ≡ res ⌝ }`
+-- by value: `ensures { result ≡ res }`
 pub record PlainFn : Type 2 where
   pub Ps : List Plain
   pub R : Plain
   pub pre : Pre (Args Ps)
   pub res : Args Ps → Of R
 
--- the two usual forms: `ensures { λ r. ⌜ (r ≡ res) × (now t.exit ≡ after) ⌝ }`, and with no result `ensures { λ r. ⌜ now t.exit ≡ after ⌝ }`
+-- the two usual forms: `ensures { (result ≡ res) × (t.new ≡ after) }`, and with no result `ensures { t.new ≡ after }`
 abbrev pub gives : (T : Plain) (Ps : List Plain) (R : Plain) → Pre (Of T × Args Ps) → (Of T → Args Ps → Of R) → (Of T → Args Ps → Of T) → LentFn T
 gives T Ps R pre res after = record {
   Ps = Ps;

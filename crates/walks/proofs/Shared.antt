@@ -59,7 +59,7 @@ use Rattle.walks.proofs.Plain.{fro-to, vss, flat-is, owns-all}
 use Rattle.walks.proofs.Walk.{Then, one, two, Stuck, Callee, Does, Ok}
 
 -- ---- what the two functions do. Neither asks anything
--- over a `&T` and a `&mut [E]`: `ensures { λ r. ⌜ ens ⌝ }`, of the T, the list at entry, the result and the list at exit
+-- over a `&T` and a `&mut [E]`: `ensures { ens }`, of the T, the list at entry, the result and the list at exit
 pub record SharedFn (T E : Plain) : Type 2 where
   pub R : Plain
   pub ens : Of T → List (Of E) → Of R → List (Of E) → Type 0

@@ -1,5 +1,5 @@
 -- The numbers are equal, or the one is smaller, or the other.
-use Rattle.std.proofs.Common.{◌≤◌, arith, lt-ltb, le-ltb}
+use Rattle.std.proofs.Common.{arith, lt-ltb, le-ltb}
 use Rattle.clock.specs.Order.{order_of}
 use Rattle.clock.proofs.order.Goals as goal
 

@@ -1,7 +1,8 @@
 -- Kinds 3, 4, and the desk's own.
 use Rattle.std.proofs.Common.{◌∙◌, sym, ap, rules}
 use borrow.Author.Tests.{eqb-true}
-use Rattle.table.specs.InPlace.{take_reply, take_in, bring_reply, bring_in, done-take, done-bring, done-own, is-own-kind}
+use Rattle.table.specs.InPlace.{take_reply, take_in, bring_reply, bring_in, done-bring, done-own, is-own-kind}
+use Rattle.table.proofs.InPlace.{done-take}
 use Rattle.table.specs.Rows.{Sized}
 use Rattle.table.specs.RuleLaws.{pass, take-there, bring-there, own-there}
 use Rattle.table_step.proofs.done.Goals as goal

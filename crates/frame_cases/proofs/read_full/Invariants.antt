@@ -1,0 +1,6 @@
+-- Assumes nothing.
+use Rattle.std.proofs.Common.{◌≤◌, length}
+use Rattle.frame_cases.proofs.read_full.Given as goal
+
+abbrev pub invariant-loop : goal.invariant-loop
+invariant-loop g l = l.done ≤ length l.buf

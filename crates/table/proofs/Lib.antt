@@ -1,0 +1,5 @@
+pub mod Choice
+pub mod Equal
+pub mod InPlace
+pub mod Kept
+pub mod Touch
