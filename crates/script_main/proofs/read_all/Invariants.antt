@@ -1,6 +1,6 @@
 -- The loop's invariant: the reader has lost what stands at the start of the buffer.
 -- Assumes nothing.
-use Rattle.std.proofs.Common.{◌≡◌, ◌≤◌, length, take}
+use Rattle.std.proofs.Common.{◌≤◌, length, take}
 use Rattle.std.specs.Io.KnownBytes.{Consumes}
 use Rattle.script_main.proofs.read_all.Given as goal
 
