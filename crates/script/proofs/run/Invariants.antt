@@ -14,7 +14,7 @@ invariant-loop-at l = record {
   walked : Walked set_up event l.s (run set_up event l.fn.t 3 (lines_of (drop l.start l.s))) l.fn.out l.table l.n l.at l.out l.o;
   short : l.o ≤ 270400;
   sound : table_sound l.table ≡ true;
-  room : Room l.table
+  room : Room l.table;
 }
 
 abbrev pub decreases-loop-at : goal.decreases-loop-at
