@@ -12,7 +12,7 @@ use Rattle.desk.specs.Parts.{change_of, asking_seat, raised_seat, own_reply, too
 use Rattle.table.specs.declared.Table.{Table}
 use Rattle.table.specs.Changes.{with_cell, with_seat_of, lost_to, lost_of, lost_count}
 use Rattle.table.specs.InPlace.{store_in, take_write_in, served_in, take_in, take_count, take_reply, bring_in, bring_count, bring_reply}
-use Rattle.table.specs.InPlace.{change_in, asked_in, stored_in, own_in, own_reply_in}
+use Rattle.table.specs.InPlace.{change_in, asked_in, stored_in, own_reply_in}
 use Rattle.table.specs.Table.{seat_of, keeper_for}
 
 -- ---- the keeper takes a write: the table after what it loses, after its seat was looked at, and at the end
@@ -85,14 +85,6 @@ module _ (t : Table) (d c : ℕ) (e : Event) (s : Seat) (is-s : s ≡ seat_of t 
 
   pub stores-not : (a u : Table) → (n ≡ 2 → ⊥) → a ≡ asked_in t d c e → u ≡ a → u ≡ stored_in t d c e
   stores-not a u h is-a is-u = rw (is-u, tested 2 false (ne_eqb n 2 h), is-a)
-
-  pub gives-told : (a v u : Table) (i : ℕ) → n ≡ 3 → a ≡ stored_in t d c e → i ≡ d * 32 + c → v ≡ with_cell a i no_cell → u ≡ v → u ≡ own_in t d c e
-  unfolding own_in
-  gives-told a v u i h is-a is-i is-v is-u = rw (is-u, is-v, tested 3 true (eq-eqb n 3 h), is-a, is-i)
-
-  pub gives-not : (a u : Table) → (n ≡ 3 → ⊥) → a ≡ stored_in t d c e → u ≡ a → u ≡ own_in t d c e
-  unfolding own_in
-  gives-not a u h is-a is-u = rw (is-u, tested 3 false (ne_eqb n 3 h), is-a)
 
 -- what is looked at first
 module _ (t a b g : Table) (d c i : ℕ) (e : Event) (x : Cell) (p : Place) (kept : Bool) (is-a : a ≡ t) (is-i : i ≡ d * 32 + c)

@@ -1,10 +1,11 @@
 -- One of three changes, by what the event is.
-use Rattle.std.proofs.Common.{◌≡◌, ◌∙◌, sym}
+use Rattle.std.proofs.Common.{◌≡◌, ◌∙◌, sym, arith}
+use Rattle.std.proofs.lemmas.Bool.Decides.{nat_tests}
 use Rattle.desk.specs.Parts.{change-asks, change-stores}
 use Rattle.table.specs.InPlace.{change_in, asked_in, stored_in, own_in}
-use Rattle.table_step.proofs.Told.{asks-told, asks-not, stores-told, stores-not, gives-told, gives-not, change-told, reply-told}
+use Rattle.table_step.proofs.Told.{asks-told, asks-not, stores-told, stores-not, change-told, reply-told}
 use Rattle.table_step.proofs.own.Goals as goal
-use Rattle.table_step.proofs.own.Goals.{then-change-eq1, else-change-eq1, then-change-eq2, else-change-eq2, then-change-eq3, else-change-eq3}
+use Rattle.table_step.proofs.own.Goals.{then-change-eq1, else-change-eq1, then-change-eq2, else-change-eq2}
 
 pub asking-requires : goal.asking-requires
 asking-requires c = (
@@ -22,6 +23,7 @@ raising-requires c = (
 )
 
 pub returns : goal.returns
+unfolding own_in
 returns c =
     let t = c.args.t.now in
     let d = c.args.d in
@@ -45,15 +47,9 @@ returns c =
       | then-change-eq2 w ↦ stores-told t d i e s is-s n is-n c.if-change-eq1.t w.store.new.t c.if-change-eq2.t w.raising.result
           w.new_word.result w.if-change-eq2.true asked w.raising.ensures w.new_word.ensures w.store.ensures w.t-is
       | else-change-eq2 w ↦ stores-not t d i e s is-s n is-n c.if-change-eq1.t c.if-change-eq2.t w.if-change-eq2.false asked w.t-is
-    ] in
-    let given : c.if-change-eq3.t ≡ own_in t d i e =
-    elim c.if-change-eq3.branch [
-      | then-change-eq3 w ↦ gives-told t d i e s is-s n is-n c.if-change-eq2.t w.clear_cell.new.t c.if-change-eq3.t
-          w.at-then-change-eq3.result w.if-change-eq3.true stored w.at-then-change-eq3.ensures w.clear_cell.ensures w.t-is
-      | else-change-eq3 w ↦ gives-not t d i e s is-s n is-n c.if-change-eq2.t c.if-change-eq3.t w.if-change-eq3.false stored w.t-is
     ] in (
       reply-told t c.seat_of-s.new.t c.cell_at-x.new.t c.place.new.t d i c.at.result e c.cell_at-x.result c.place.result c.keeps-kept.result
           c.seat_of-s.ensures.1 c.at.ensures c.cell_at-x.ensures.0 c.cell_at-x.ensures.1 c.place.ensures.0 c.keeps-kept.ensures
           c.own_reply.result c.own_reply.ensures,
-      given,
+      grind (arith, nat_tests),
     )
