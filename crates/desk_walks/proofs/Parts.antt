@@ -1,4 +1,4 @@
--- A record and its parts for the walks (crate `walks`), and what each function of this crate does, as its callers cite it.
+-- A record and its parts for the walks (crate `walks`), and what each function of `desk_parts` does, as its callers cite it.
 -- Assumes nothing.
 use mathlib.Core.Path.{refl}
 use mir.Syntax.{w8}
@@ -81,7 +81,11 @@ abbrev pub places-in : Row desk-record spot 32
 places-in = record { part = of tray-in places-of-tray; past = no_place; fits = tt }
 
 abbrev pub row_in : Row desk-record cell 32
-row_in = record { part = array_as cell 32 (field_of record-form 3 refl refl) (λ x. x) (λ x. x) (λ x h. h) (λ x h. h) refl (λ x. refl) (λ x. refl); past = past_cell; fits = tt }
+row_in = record {
+  part = array_as cell 32 (field_of record-form 3 refl refl) (λ x. x) (λ x. x) (λ x h. h) (λ x h. h) refl (λ x. refl) (λ x. refl);
+  past = past_cell;
+  fits = tt;
+}
 
 -- ---- the functions
 abbrev pub own-tray : LentFn desk-record
