@@ -8,7 +8,7 @@ use clock::Clock;
 use desk::Message;
 use frame::{Reading, Written};
 use std::io;
-use std::io::{BufWriter, ErrorKind, Read, Write};
+use std::io::{Read, Write};
 
 // A case as far as its line has been read.
 #[derive(Clone, Copy)]
@@ -23,31 +23,22 @@ struct Case {
 fn main(rt: HostRuntime) -> io::Result<()> {
     let mut text = [0u8; 262144];
     let n = read_full(&mut rt.stdin(), &mut text)?;
-    let mut out = BufWriter::new(rt.alloc(), rt.stdout())?;
-    run(&text[..n], &mut out)?;
-    out.flush()
+    run(&text[..n], &mut rt.stdout())
 }
 
-// Reads until the input ends or buf is full, and again where a signal came between.
+// Reads until the input ends or buf is full.
 fn read_full<R: Read>(from: &mut R, buf: &mut [u8]) -> io::Result<usize>
     ensures { IfOk result (λ n. n ≤ length buf.old) }
 {
     let mut done = 0;
-    for _ in 0..u64::MAX {
-        if buf.len() <= done {
+    while done < buf.len() {
+        let more = from.read(&mut buf[done..])?;
+        if more == 0 {
             return Ok(done);
         }
-        match from.read(&mut buf[done..]) {
-            Ok(0) => return Ok(done),
-            Ok(more) => done += more,
-            Err(e) => {
-                if e.kind() != ErrorKind::Interrupted {
-                    return Err(e);
-                }
-            }
-        }
+        done += more;
     }
-    Err(io::Error::from(ErrorKind::Interrupted))
+    Ok(done)
 }
 
 fn run<W: Write>(text: &[u8], out: &mut W) -> io::Result<()> {

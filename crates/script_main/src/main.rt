@@ -7,7 +7,7 @@ ghost use Rattle.text.specs.Script.{answer as script_answer};
 ghost use Rattle.script.specs.Rules.{set_up, event};
 
 use std::fmt::{Debug, Formatter};
-use std::io::{ErrorKind, Read, Write};
+use std::io::{Read, Write};
 use std::{fmt, io};
 
 // Which of the two failed.
@@ -43,26 +43,19 @@ fn respond<R: Read, W: Write>(from: &mut R, to: &mut W) -> Result<(), Failure>
     to.write_all(&out[..n]).map_err(Failure::Output)
 }
 
-// Reads until the input ends or buf is full, and again where a signal came between.
+// Reads until the input ends or buf is full.
 fn read_all<R: Read>(from: &mut R, buf: &mut [u8]) -> io::Result<usize>
     ensures upper_bound { IfOk result (λ n. n ≤ length buf.old) }
     ensures bytes { IfOk result (λ n. Consumes (R.remaining from.old) (R.remaining from.new) (take n buf.new)) }
     ensures whole { IfOk result (λ n. n < length buf.old → IsAtEnd (R.remaining from.new)) }
 {
     let mut done = 0;
-    for _ in 0..u64::MAX {
-        if buf.len() <= done {
+    while done < buf.len() {
+        let more = from.read(&mut buf[done..])?;
+        if more == 0 {
             return Ok(done);
         }
-        match from.read(&mut buf[done..]) {
-            Ok(0) => return Ok(done),
-            Ok(more) => done += more,
-            Err(e) => {
-                if e.kind() != ErrorKind::Interrupted {
-                    return Err(e);
-                }
-            }
-        }
+        done += more;
     }
-    Err(io::Error::from(ErrorKind::Interrupted))
+    Ok(done)
 }

@@ -12,6 +12,7 @@ use table::{SetUp, Table};
 use table_parts::{clear_cell, clear_seat, copy_first, counts, keep_cell, place, put_tray};
 
 // A fresh table from any plan, in place of the one that is lent.
+#[tactic(auto, using(crate::proofs::Refused::refused_told))]
 pub fn set_up(t: &mut Table, plan: Plan) -> u32
     ensures { (result ≡ (set_up_rule plan).code) × (t.new ≡ (set_up_rule plan).table) }
 {
@@ -25,7 +26,7 @@ pub fn set_up(t: &mut Table, plan: Plan) -> u32
     0
 }
 
-// The same as a value, for who owns the table: the borrow checker covers such a caller.
+// The same as a value, for who owns the table.
 pub fn made(plan: Plan) -> SetUp
     ensures { result ≡ set_up_rule plan }
 {

@@ -2,26 +2,22 @@
 use Rattle.std.proofs.Common.{◌≡◌, sym, ap, ap₂, ◌∙◌, length, rules}
 use Rattle.desk.specs.Start.{set_up_refusal}
 use Rattle.table.specs.declared.SetUp.{SetUp}
-use Rattle.table.specs.SetUpInPlace.{with_tray, kept_in, set-up-refused, housed, set-up-done}
+use Rattle.table.specs.SetUpInPlace.{with_tray, kept_in, housed, set-up-done}
 use Rattle.table_set_up.proofs.set_up.Goals as goal
-
-pub returns-then-code-ne0 : goal.returns-then-code-ne0
-returns-then-code-ne0 c =
-    let told = c.refusal-code.ensures in
-    let same = sym (set-up-refused c.args.plan (λ none. c.if-code-ne0.true (told ∙ none))) in
-    (told ∙ ap (λ (s : SetUp). s.code) same, c.clear.ensures ∙ ap (λ (s : SetUp). s.table) same)
 
 pub keep-requires : goal.keep-requires
 keep-requires c =
     let p = c.args.plan in
     let long : length p.keepers ≡ 32 = search rules in
-    rw (c.put_tray.ensures, c.tray.ensures) (housed p long (sym c.refusal-code.ensures ∙ c.if-code-ne0.false))
+    let zero : c.refusal-code.result ≡ 0 = search rules in
+    rw (c.put_tray.ensures, c.tray.ensures) (housed p long (sym c.refusal-code.ensures ∙ zero))
 
 pub returns : goal.returns
 returns c =
     let p = c.args.plan in
     let long : length p.keepers ≡ 32 = search rules in
-    let none : set_up_refusal p ≡ 0 = sym c.refusal-code.ensures ∙ c.if-code-ne0.false in
+    let zero : c.refusal-code.result ≡ 0 = search rules in
+    let none : set_up_refusal p ≡ 0 = sym c.refusal-code.ensures ∙ zero in
     let same = sym (set-up-done p long none) in
     let made = c.put_tray.ensures ∙ ap₂ with_tray c.clear.ensures c.tray.ensures in
     (ap (λ (s : SetUp). s.code) same, c.keep.ensures ∙ ap kept_in made ∙ ap (λ (s : SetUp). s.table) same)
