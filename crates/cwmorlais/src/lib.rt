@@ -1,5 +1,5 @@
 #![tactic(auto)]
-// The library for Rust and C. A lent record or table is made and stepped where it lies.
+// The library's entry points. A lent record or table is made and stepped where it lies. C and Rust link them by the exports of `cwmorlais_c`.
 ghost use Rattle.std.specs.Prelude.{◌≡◌};
 ghost use Rattle.desk.specs.Rules.{answer_of, event_rule, serve_rule, bring_rule};
 ghost use Rattle.desk.specs.Start.{start_rule};
@@ -12,48 +12,42 @@ use frame::{Reading, Written};
 use table::Table;
 
 // A desk's fresh record, in place of the one that is lent; a refusal leaves it all zero.
-#[unsafe(no_mangle)]
-pub extern "C" fn cwmorlais_desk_start(v: &mut Record, plan: Plan, desk: u32) -> u32
+pub fn cwmorlais_desk_start(v: &mut Record, plan: Plan, desk: u32) -> u32
     ensures { (result ≡ (start_rule plan desk).code) × (v.new ≡ (start_rule plan desk).«record») }
 {
     desk_start::start(v, plan, desk)
 }
 
 // The desk's user wants something. With code 1 the message is the request, for the cell's keeper.
-#[unsafe(no_mangle)]
-pub extern "C" fn cwmorlais_desk_event(v: &mut Record, e: Event) -> Answer
+pub fn cwmorlais_desk_event(v: &mut Record, e: Event) -> Answer
     ensures { (result ≡ answer_of (event_rule v.old e)) × (v.new ≡ (event_rule v.old e).after) }
 {
     desk_step::event(v, e)
 }
 
 // A request came for a cell that this desk keeps. With code 0 the message is the answer, for the desk that asked.
-#[unsafe(no_mangle)]
-pub extern "C" fn cwmorlais_desk_serve(v: &mut Record, m: &Message) -> Answer
+pub fn cwmorlais_desk_serve(v: &mut Record, m: &Message) -> Answer
     ensures { (result ≡ answer_of (serve_rule v.old m.now)) × (v.new ≡ (serve_rule v.old m.now).after) }
 {
     desk_step::serve(v, *m)
 }
 
 // The answer came to what this desk asked.
-#[unsafe(no_mangle)]
-pub extern "C" fn cwmorlais_desk_bring(v: &mut Record, m: &Message) -> Answer
+pub fn cwmorlais_desk_bring(v: &mut Record, m: &Message) -> Answer
     ensures { (result ≡ answer_of (bring_rule v.old m.now)) × (v.new ≡ (bring_rule v.old m.now).after) }
 {
     desk_step::bring(v, *m)
 }
 
 // The message whose frame the bytes start with.
-#[unsafe(no_mangle)]
-pub extern "C" fn cwmorlais_frame_read(s: &[u8]) -> Reading
+pub fn cwmorlais_frame_read(s: &[u8]) -> Reading
     ensures { result ≡ read_rule s.now }
 {
     frame_read::read(s)
 }
 
 // The frame of a message, at the start of the output.
-#[unsafe(no_mangle)]
-pub extern "C" fn cwmorlais_frame_write(m: &Message, out: &mut [u8]) -> Written
+pub fn cwmorlais_frame_write(m: &Message, out: &mut [u8]) -> Written
     ensures { (result ≡ write_rule m.now out.old) × (out.new ≡ output_rule m.now out.old) }
 {
     if m.kind == 1 {
@@ -63,16 +57,14 @@ pub extern "C" fn cwmorlais_frame_write(m: &Message, out: &mut [u8]) -> Written
 }
 
 // A fresh table, in place of the one that is lent; a refusal leaves it all zero.
-#[unsafe(no_mangle)]
-pub extern "C" fn cwmorlais_table_set_up(t: &mut Table, plan: Plan) -> u32
+pub fn cwmorlais_table_set_up(t: &mut Table, plan: Plan) -> u32
     ensures { (result ≡ (set_up_rule plan).code) × (t.new ≡ (set_up_rule plan).table) }
 {
     table_set_up::set_up(t, plan)
 }
 
 // One event on the lent table.
-#[unsafe(no_mangle)]
-pub extern "C" fn cwmorlais_table_event(t: &mut Table, e: Event) -> Reply
+pub fn cwmorlais_table_event(t: &mut Table, e: Event) -> Reply
     ensures { (result ≡ (table_rule t.old e).reply) × (t.new ≡ (table_rule t.old e).after) }
 {
     table_step::event(t, e)
