@@ -6,6 +6,8 @@ ghost use Rattle.desk.specs.Desk.{kept_by};
 ghost use Rattle.desk_sums.specs.Sums.{no_sum, joined, or_past, rest_of, add_kept, add_clock, slot_bad, add_seat, add_seat_of, slot_cell, sum_fits};
 ghost use Rattle.desk_sums.specs.Sums.{used_by, record_fits, row_count};
 
+pub mod rows;
+
 use clock::Clock;
 use desk::sound::{is_blank, sent_fits, tray_sound};
 use desk::{Cell, Counts, Place, Seat, Slot, Tray};
