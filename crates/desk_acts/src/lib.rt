@@ -8,6 +8,8 @@ ghost use Rattle.desk.specs.Parts.{refused_answer, asked_message, own_answer, se
 ghost use Rattle.desk.specs.Rules.{shown_code, refused_reply, place_lines};
 ghost use Rattle.theory_refusals.specs.Refusals.{first_of};
 
+pub mod rows;
+
 use clock::Clock;
 use desk::sound::{is_blank, waits};
 use desk::{Answer, Cell, Counts, Event, Message, Place, Reply, Seat, Slot};

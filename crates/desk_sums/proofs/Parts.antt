@@ -1,6 +1,6 @@
 -- A row's sum in two parts, as the code walks over it: each part is a list of its own.
 -- Assumes nothing.
-use Rattle.std.proofs.Common.{◌≡◌, refl, ap, ap₂, sym, ◌∙◌, List, ℕ, suc, zero, ◌+◌, ◌-◌, ◌≤◌, ◌<◌, length, take, drop, get_or-take, get_or-drop, length-drop, length-take-le, zero-add, arith}
+use Rattle.std.proofs.Common.{◌≡◌, refl, ap, ◌∙◌, List, ℕ, suc, zero, ◌+◌, ◌-◌, ◌≤◌, ◌<◌, length, take, drop, get_or-take, get_or-drop, length-drop, length-take-le, zero-add, arith}
 use Rattle.desk.specs.declared.Cell.{Cell}
 use Rattle.desk.specs.declared.Place.{Place}
 use Rattle.desk.specs.Desk.{past_cell, cell_at, kept_by}

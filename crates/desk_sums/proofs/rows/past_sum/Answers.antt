@@ -1,5 +1,5 @@
 -- One cell more is what `past_next` says.
-use Rattle.std.proofs.Common.{◌≡◌, ◌∙◌, sym, ap, zero-le, rules}
+use Rattle.std.proofs.Common.{sym, zero-le}
 use Rattle.desk.specs.Desk.{cell_at}
 use Rattle.desk_sums.specs.Rows.{past-none, past_next}
 use Rattle.desk_sums.proofs.rows.past_sum.Goals as goal

@@ -1,5 +1,5 @@
 -- One cell more is what `used-next` says.
-use Rattle.std.proofs.Common.{◌≡◌, ◌∙◌, sym, ap}
+use Rattle.std.proofs.Common.{sym}
 use Rattle.desk.specs.Desk.{cell_at, place_at}
 use Rattle.desk_sums.specs.Rows.{used-none, used-next}
 use Rattle.desk_sums.proofs.rows.used_sum.Goals as goal
