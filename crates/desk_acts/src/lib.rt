@@ -63,10 +63,7 @@ fn reply(code: Code, value: u32, count: u32) -> Reply
 pub fn is_lost(kept: bool, learnt: Clock, x: Cell) -> bool
     ensures { result ≡ loses_if kept learnt x }
 {
-    if !x.held | kept {
-        return false;
-    }
-    x.stamp.before(learnt)
+    x.held && !kept && x.stamp.before(learnt)
 }
 
 #[tactic(auto, unfolding(desk::specs::Parts::change_of))]
@@ -120,7 +117,7 @@ fn next(clock: Clock, desk: usize) -> Clock
     ensures { result ≡ raised clock desk }
 {
     let mut next = clock;
-    next.n[desk] = next.n[desk] + 1;
+    next.n[desk] += 1;
     next
 }
 
@@ -216,7 +213,7 @@ pub fn took(s: Seat, sent: Clock) -> Seat
     }
 }
 
-// The kind of the answer to a request.
+// The kind of the answer to a request. A sum of numbers still, since its clause `answer_kind` holds of an empty slot's 0 too, which no Kind answers.
 pub fn answer_kind(asked: u8) -> u8
     requires { asked < 3 }
     ensures { result ≡ answer_kind asked }
