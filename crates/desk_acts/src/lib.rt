@@ -2,7 +2,7 @@
 // What a desk's steps make of a seat and of a cell, by value. Record and table are thin functions over these.
 ghost use Rattle.std.specs.Prelude.{◌≡◌, ◌+◌, ◌*◌, ◌<◌, eqb};
 ghost use Rattle.clock.specs.Clock.{number, raised};
-ghost use Rattle.desk.specs.Desk.{held_cell, one_if, answer_kind};
+ghost use Rattle.desk.specs.Desk.{held_cell, answer_kind};
 ghost use Rattle.desk.specs.Parts.{change_of, asked_for, asking_seat, raised_seat, read_reply, write_reply, own_reply, took_seat, answered_seat, home_seat, brought_cell, brought_reply, reply_of, loses_if};
 ghost use Rattle.desk.specs.Parts.{refused_answer, asked_message, own_answer, served_answer, brought_answer};
 ghost use Rattle.desk.specs.Rules.{shown_code, refused_reply, place_lines};
