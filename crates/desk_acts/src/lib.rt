@@ -4,7 +4,7 @@ ghost use Rattle.std.specs.Prelude.{◌≡◌, ◌+◌, ◌*◌, ◌<◌, eqb};
 ghost use Rattle.clock.specs.Clock.{number, raised};
 ghost use Rattle.desk.specs.Desk.{held_cell, answer_kind};
 ghost use Rattle.desk.specs.Parts.{change_of, asked_for, asking_seat, raised_seat, read_reply, write_reply, own_reply, took_seat, answered_seat, home_seat, brought_cell, brought_reply, reply_of, loses_if};
-ghost use Rattle.desk.specs.Parts.{refused_answer, asked_message, own_answer, served_answer, brought_answer};
+ghost use Rattle.desk.specs.Parts.{refused_answer, asked_message, served_answer, brought_answer};
 ghost use Rattle.desk.specs.Rules.{shown_code, refused_reply, place_lines};
 ghost use Rattle.desk_acts.specs.Change.{change_number, code_number};
 ghost use Rattle.desk_acts.specs.Own.{own_seat, own_cell};
@@ -306,7 +306,7 @@ pub fn refused_answer(code: u32) -> Answer
 
 // A desk that asks sends what stands in its slot.
 #[tactic(auto, unfolding(desk::specs::Parts::asked_message))]
-fn asked_message(change: Change, n: Counts, desk: u8, s: Slot) -> Message
+pub fn asked_message(change: Change, n: Counts, desk: u8, s: Slot) -> Message
     ensures { result ≡ asked_message (change_number change) n desk s }
 {
     if change != Change::Asks {
@@ -319,17 +319,6 @@ fn asked_message(change: Change, n: Counts, desk: u8, s: Slot) -> Message
         cell: s.cell,
         word: s.word,
         clock: s.clock,
-    }
-}
-
-// To an own event; s is the seat afterwards.
-#[tactic(auto, unfolding(desk::specs::Parts::own_answer))]
-pub fn own_answer(kept: bool, x: Cell, e: Event, n: Counts, desk: u8, s: Seat) -> Answer
-    ensures { result ≡ own_answer kept x e n desk s.slot }
-{
-    Answer {
-        reply: own_reply(kept, x, e),
-        message: asked_message(change_of(kept, x, e), n, desk, s.slot),
     }
 }
 
