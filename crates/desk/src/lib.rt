@@ -1,5 +1,8 @@
 #![tactic(auto)]
 // One desk: its record, what passes between desks, and whether a record is sound. What a desk does stands in the crates above.
+ghost use Rattle.std.specs.Prelude.{◌≡◌};
+ghost use Rattle.desk.specs.Desk.{kept_by};
+
 use clock::Clock;
 
 pub mod kinds;
@@ -78,6 +81,12 @@ pub struct Place {
 impl Place {
     // What stands past the cell count.
     pub const NONE: Place = Place { keeper: 0 };
+
+    pub fn kept_by(self, desk: usize) -> bool
+        ensures { result ≡ kept_by self desk }
+    {
+        self.keeper as usize == desk
+    }
 }
 
 #[repr(C)]

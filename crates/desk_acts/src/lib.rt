@@ -11,6 +11,8 @@ ghost use Rattle.desk_acts.specs.Own.{own_seat, own_cell};
 ghost use Rattle.theory_refusals.specs.Numbers.{code_of};
 ghost use Rattle.theory_refusals.specs.Refusals.{first_of};
 
+pub mod rows;
+
 use clock::Clock;
 use desk::kinds::{Act, Kind};
 use desk::sound::{is_blank, waits};

@@ -2,9 +2,10 @@
 // Soundness as a running sum that is tested once: what each cell and each seat adds, and the test.
 // A walk over a table's or a record's entries calls these, each on small things by value.
 ghost use Rattle.std.specs.Prelude.{◌≡◌};
-ghost use Rattle.desk.specs.Desk.{kept_by};
 ghost use Rattle.desk_sums.specs.Sums.{no_sum, joined, or_past, rest_of, add_kept, add_clock, slot_bad, add_seat, add_seat_of, slot_cell, sum_fits};
 ghost use Rattle.desk_sums.specs.Sums.{used_by, record_fits, row_count};
+
+pub mod rows;
 
 use clock::Clock;
 use desk::sound::{is_blank, sent_fits, tray_sound};
@@ -169,13 +170,7 @@ pub fn slot_cell(v: Seat) -> usize
 pub fn add_seat_of(s: Sum, n: Counts, d: usize, p: Place, v: Seat) -> Sum
     ensures { result ≡ add_seat_of s n d p v }
 {
-    add_seat(s, d < n.desks as usize, n.cells, keeps(p, d), v)
-}
-
-pub fn keeps(p: Place, d: usize) -> bool
-    ensures { result ≡ kept_by p d }
-{
-    p.keeper as usize == d
+    add_seat(s, d < n.desks as usize, n.cells, p.kept_by(d), v)
 }
 
 // How many of desk d's cells are the tray's: none if the desk is absent.
