@@ -2,17 +2,39 @@
 // What a desk's steps make of a seat and of a cell, by value. Record and table are thin functions over these.
 ghost use Rattle.std.specs.Prelude.{◌≡◌, ◌+◌, ◌*◌, ◌<◌, eqb};
 ghost use Rattle.clock.specs.Clock.{number, raised};
-ghost use Rattle.desk.specs.Desk.{held_cell, one_if, answer_kind};
+ghost use Rattle.desk.specs.Desk.{held_cell, answer_kind};
 ghost use Rattle.desk.specs.Parts.{change_of, asked_for, asking_seat, raised_seat, read_reply, write_reply, own_reply, took_seat, answered_seat, home_seat, brought_cell, brought_reply, reply_of, loses_if};
 ghost use Rattle.desk.specs.Parts.{refused_answer, asked_message, own_answer, served_answer, brought_answer};
 ghost use Rattle.desk.specs.Rules.{shown_code, refused_reply, place_lines};
+ghost use Rattle.desk_acts.specs.Change.{change_number, code_number};
+ghost use Rattle.desk_acts.specs.Own.{own_seat, own_cell};
+ghost use Rattle.theory_refusals.specs.Numbers.{code_of};
 ghost use Rattle.theory_refusals.specs.Refusals.{first_of};
 
 pub mod rows;
 
 use clock::Clock;
+use desk::kinds::{Act, Kind};
 use desk::sound::{is_blank, waits};
 use desk::{Answer, Cell, Counts, Event, Message, Place, Reply, Seat, Slot};
+use theory_refusals::Refusal;
+
+// What an own event changes.
+#[derive(Clone, Copy, Debug, PartialEq, Eq)]
+pub enum Change {
+    Nothing = 0,
+    Asks = 1,
+    Stores = 2,
+    GivesUp = 3,
+}
+
+// What the reply to an event that is done tells: it is done, it is asked of the keeper, or what is read is blank.
+#[derive(Clone, Copy, Debug, PartialEq, Eq)]
+pub enum Code {
+    Done = 0,
+    Asked = 1,
+    Blank = 2,
+}
 
 // Where desk d's cell c stands in a table.
 pub fn at(d: usize, c: usize) -> usize
@@ -22,42 +44,40 @@ pub fn at(d: usize, c: usize) -> usize
     d * 32 + c
 }
 
-fn shown_code(blank: bool) -> u32
-    ensures { result ≡ shown_code blank }
+fn shown(blank: bool) -> Code
+    ensures { code_number result ≡ shown_code blank }
 {
-    if blank { 2 } else { 0 }
+    if blank { Code::Blank } else { Code::Done }
 }
 
-fn one_if(test: bool) -> u32
-    ensures { result ≡ one_if test }
+// The reply to an event that is done.
+fn reply(code: Code, value: u32, count: u32) -> Reply
+    ensures { result ≡ reply_of (code_number code) value count }
 {
-    if test { 1 } else { 0 }
+    Reply {
+        code: code as u32,
+        value,
+        count,
+    }
 }
 
 // Whether a copy is lost to a learnt clock.
 pub fn is_lost(kept: bool, learnt: Clock, x: Cell) -> bool
     ensures { result ≡ loses_if kept learnt x }
 {
-    if !x.held | kept {
-        return false;
-    }
-    let stamp = x.stamp;
-    stamp.before(learnt)
+    x.held && !kept && x.stamp.before(learnt)
 }
 
-// What an own event changes: 0 nothing, 1 the desk asks, 2 it stores, 3 it gives up.
 #[tactic(auto, unfolding(desk::specs::Parts::change_of))]
-pub fn change_of(kept: bool, x: Cell, e: Event) -> u8
-    ensures { result ≡ change_of kept x e }
+pub fn change_of(kept: bool, x: Cell, e: Event) -> Change
+    ensures { change_number result ≡ change_of kept x e }
 {
-    let kind = e.kind;
-    if kind == 1 {
-        return if x.held { 0 } else { 1 };
+    match Act::try_from(e.kind) {
+        Ok(Act::Read) if x.held => Change::Nothing,
+        Ok(Act::Write) if kept => Change::Stores,
+        Ok(Act::Read | Act::Write) => Change::Asks,
+        _ => Change::GivesUp,
     }
-    if kind == 2 {
-        return if kept { 2 } else { 1 };
-    }
-    3
 }
 
 // The reply to it.
@@ -65,17 +85,10 @@ pub fn change_of(kept: bool, x: Cell, e: Event) -> u8
 pub fn own_reply(kept: bool, x: Cell, e: Event) -> Reply
     ensures { result ≡ own_reply kept x e }
 {
-    let kind = e.kind;
-    if kind == 1 {
-        return read_reply(x);
-    }
-    if kind == 2 {
-        return write_reply(kept, e.word);
-    }
-    Reply {
-        code: 0,
-        value: 0,
-        count: one_if(x.held & !kept),
+    match Act::try_from(e.kind) {
+        Ok(Act::Read) => read_reply(x),
+        Ok(Act::Write) => write_reply(kept, e.word),
+        _ => reply(Code::Done, 0, u32::from(x.held & !kept)),
     }
 }
 
@@ -83,20 +96,10 @@ pub fn own_reply(kept: bool, x: Cell, e: Event) -> Reply
 fn read_reply(x: Cell) -> Reply
     ensures { result ≡ read_reply x }
 {
-    let word = x.word;
-    let stamp = x.stamp;
-    if x.held {
-        return Reply {
-            code: shown_code(is_blank(stamp)),
-            value: word,
-            count: 0,
-        };
+    if !x.held {
+        return reply(Code::Asked, 0, 0);
     }
-    Reply {
-        code: 1,
-        value: 0,
-        count: 0,
-    }
+    reply(shown(is_blank(x.stamp)), x.word, 0)
 }
 
 #[tactic(auto, unfolding(desk::specs::Parts::write_reply))]
@@ -104,16 +107,9 @@ fn write_reply(kept: bool, word: u32) -> Reply
     ensures { result ≡ write_reply kept word }
 {
     if kept {
-        return Reply {
-            code: 0,
-            value: word,
-            count: 0,
-        };
-    }
-    Reply {
-        code: 1,
-        value: 0,
-        count: 0,
+        reply(Code::Done, word, 0)
+    } else {
+        reply(Code::Asked, 0, 0)
     }
 }
 
@@ -123,7 +119,7 @@ fn next(clock: Clock, desk: usize) -> Clock
     ensures { result ≡ raised clock desk }
 {
     let mut next = clock;
-    next.n[desk] = next.n[desk] + 1;
+    next.n[desk] += 1;
     next
 }
 
@@ -133,21 +129,19 @@ fn asked_for(s: Seat, desk: usize, e: Event) -> Slot
     requires { (desk < 8) × (e.cell < 32) × (e.kind ≡ 2 → number s.clock desk ≡ 4294967295 → ⊥) × ((e.kind ≡ 1 → ⊥) → e.kind ≡ 2) }
     ensures { result ≡ asked_for s desk e }
 {
-    let kind = e.kind;
-    if kind == 1 {
+    let cell = e.cell as u8;
+    if e.kind == Act::Read as u32 {
         return Slot {
-            kind: 1,
-            cell: e.cell as u8,
-            word: 0,
-            clock: Clock::ZERO,
+            kind: Kind::ReadAsked as u8,
+            cell,
+            ..Slot::NONE
         };
     }
-    let clock = next(s.clock, desk);
     Slot {
-        kind: 2,
-        cell: e.cell as u8,
+        kind: Kind::WriteAsked as u8,
+        cell,
         word: e.word,
-        clock,
+        clock: next(s.clock, desk),
     }
 }
 
@@ -156,11 +150,11 @@ pub fn asking(s: Seat, desk: usize, e: Event) -> Seat
     requires { (desk < 8) × (e.cell < 32) × (e.kind ≡ 2 → number s.clock desk ≡ 4294967295 → ⊥) × ((e.kind ≡ 1 → ⊥) → e.kind ≡ 2) }
     ensures { result ≡ asking_seat s desk e }
 {
-    let slot = asked_for(s, desk, e);
-    let mut after = s;
-    after.slot = slot;
-    after.served = false;
-    after
+    Seat {
+        slot: asked_for(s, desk, e),
+        served: false,
+        ..s
+    }
 }
 
 // The seat of a keeper that writes: its own number is one higher.
@@ -168,17 +162,15 @@ pub fn raising(s: Seat, desk: usize) -> Seat
     requires { (desk < 8) × (number s.clock desk ≡ 4294967295 → ⊥) }
     ensures { result ≡ raised_seat s desk }
 {
-    let clock = next(s.clock, desk);
-    let mut after = s;
-    after.clock = clock;
-    after
+    Seat {
+        clock: next(s.clock, desk),
+        ..s
+    }
 }
 
-// A word stored under the seat's clock.
-pub fn storing(s: Seat, word: u32) -> Cell
-    ensures { result ≡ held_cell word s.clock }
+fn held(word: u32, stamp: Clock) -> Cell
+    ensures { result ≡ held_cell word stamp }
 {
-    let stamp = s.clock;
     Cell {
         held: true,
         word,
@@ -186,19 +178,44 @@ pub fn storing(s: Seat, word: u32) -> Cell
     }
 }
 
+// A word stored in a cell under the clock of the new seat.
+pub fn store(seat: &mut Seat, cell: &mut Cell, s: Seat, word: u32)
+    ensures { (seat.new ≡ s) × (cell.new ≡ held_cell word s.clock) }
+{
+    *seat = s;
+    *cell = held(word, s.clock);
+}
+
+// What an own event makes of its desk's seat and of the named cell. Only what changes is stored, and the constant as one.
+#[tactic(auto, unfolding(crate::specs::Own::own_seat, crate::specs::Own::own_cell, desk::specs::Parts::change_of))]
+pub fn own(seat: &mut Seat, cell: &mut Cell, kept: bool, desk: usize, e: Event) -> Reply
+    requires { (desk < 8) × (e.cell < 32) × (e.kind ≡ 2 → number seat.old.clock desk ≡ 4294967295 → ⊥) }
+    ensures reply { result ≡ own_reply kept cell.old e }
+    ensures seat { seat.new ≡ own_seat kept cell.old e desk seat.old }
+    ensures cell { cell.new ≡ own_cell kept cell.old e desk seat.old }
+{
+    let reply = own_reply(kept, *cell, e);
+    match change_of(kept, *cell, e) {
+        Change::Nothing => {}
+        Change::Asks => *seat = asking(*seat, desk, e),
+        Change::Stores => store(seat, cell, raising(*seat, desk), e.word),
+        Change::GivesUp => *cell = Cell::NONE,
+    }
+    reply
+}
+
 // The keeper's seat once it has taken a write: it learns the sent clock, and *served* goes on if it waits.
 pub fn took(s: Seat, sent: Clock) -> Seat
     ensures { result ≡ took_seat s sent }
 {
-    let clock = s.clock.merge(sent);
-    let served = s.served | waits(s.slot);
-    let mut after = s;
-    after.clock = clock;
-    after.served = served;
-    after
+    Seat {
+        clock: s.clock.merge(sent),
+        served: s.served | waits(s.slot),
+        ..s
+    }
 }
 
-// The kind of the answer to a request.
+// The kind of the answer to a request. A sum of numbers still, since its clause `answer_kind` holds of an empty slot's 0 too, which no Kind answers.
 pub fn answer_kind(asked: u8) -> u8
     requires { asked < 3 }
     ensures { result ≡ answer_kind asked }
@@ -211,17 +228,13 @@ pub fn answering(s: Seat, x: Cell) -> Seat
     requires { s.slot.kind < 3 }
     ensures { result ≡ answered_seat s x }
 {
-    let clock = x.stamp;
-    let asked = s.slot;
     let slot = Slot {
-        kind: answer_kind(asked.kind),
-        cell: asked.cell,
+        kind: answer_kind(s.slot.kind),
         word: x.word,
-        clock,
+        clock: x.stamp,
+        ..s.slot
     };
-    let mut after = s;
-    after.slot = slot;
-    after
+    Seat { slot, ..s }
 }
 
 // The cell that an answer names, once it is brought: held unless the desk served a write meanwhile.
@@ -231,38 +244,129 @@ pub fn brought(served: bool, word: u32, stamp: Clock) -> Cell
     if served {
         return Cell::NONE;
     }
-    Cell {
-        held: true,
-        word,
-        stamp,
-    }
+    held(word, stamp)
 }
 
 // The seat of a desk that has its answer.
 pub fn home(s: Seat, stamp: Clock) -> Seat
     ensures { result ≡ home_seat s stamp }
 {
-    let clock = s.clock.merge(stamp);
-    let empty = Slot::NONE;
-    let mut after = s;
-    after.clock = clock;
-    after.slot = empty;
-    after.served = false;
-    after
+    Seat {
+        clock: s.clock.merge(stamp),
+        slot: Slot::NONE,
+        served: false,
+    }
 }
 
 pub fn bring_reply(kind: u8, word: u32, stamp: Clock, count: u32) -> Reply
     ensures { result ≡ brought_reply kind word stamp count }
 {
-    let blank = (kind == 3) & is_blank(stamp);
+    let blank = (kind == Kind::ReadAnswered as u8) & is_blank(stamp);
+    reply(shown(blank), word, count)
+}
+
+// ---- replies
+pub fn refused(code: u32) -> Reply
+    ensures { result ≡ refused_reply code }
+{
     Reply {
-        code: shown_code(blank),
-        value: word,
-        count,
+        code,
+        value: 0,
+        count: 0,
     }
 }
 
-// ---- what a walk asks of an event, a seat, a place and the counts
+pub fn dropped(count: u32) -> Reply
+    ensures { result ≡ reply_of 0 0 count }
+{
+    reply(Code::Done, 0, count)
+}
+
+// The table's first refusals: an event of no kind, and a desk that is not there.
+#[tactic(auto, unfolding(theory_refusals::specs::Refusals::first_of))]
+pub fn unplaced(n: Counts, e: Event) -> Result<(), Refusal>
+    ensures { code_of result ≡ first_of (place_lines n e) }
+{
+    Act::try_from(e.kind)?;
+    if n.desks as u32 <= e.desk {
+        return Err(Refusal::NoSuchDesk);
+    }
+    Ok(())
+}
+
+// ---- answers
+pub fn refused_answer(code: u32) -> Answer
+    ensures { result ≡ refused_answer code }
+{
+    Answer {
+        reply: refused(code),
+        message: Message::NONE,
+    }
+}
+
+// A desk that asks sends what stands in its slot.
+#[tactic(auto, unfolding(desk::specs::Parts::asked_message))]
+fn asked_message(change: Change, n: Counts, desk: u8, s: Slot) -> Message
+    ensures { result ≡ asked_message (change_number change) n desk s }
+{
+    if change != Change::Asks {
+        return Message::NONE;
+    }
+    Message {
+        kind: s.kind,
+        desks: n.desks,
+        desk,
+        cell: s.cell,
+        word: s.word,
+        clock: s.clock,
+    }
+}
+
+// To an own event; s is the seat afterwards.
+#[tactic(auto, unfolding(desk::specs::Parts::own_answer))]
+pub fn own_answer(kept: bool, x: Cell, e: Event, n: Counts, desk: u8, s: Seat) -> Answer
+    ensures { result ≡ own_answer kept x e n desk s.slot }
+{
+    Answer {
+        reply: own_reply(kept, x, e),
+        message: asked_message(change_of(kept, x, e), n, desk, s.slot),
+    }
+}
+
+// To a request, with what the keeper's cell now has.
+pub fn served_answer(count: u32, m: Message, x: Cell) -> Answer
+    requires { m.kind < 3 }
+    ensures { result ≡ served_answer count m x }
+{
+    let message = Message {
+        kind: answer_kind(m.kind),
+        word: x.word,
+        clock: x.stamp,
+        ..m
+    };
+    Answer {
+        reply: dropped(count),
+        message,
+    }
+}
+
+pub fn brought_answer(count: u32, m: Message) -> Answer
+    ensures { result ≡ brought_answer count m }
+{
+    Answer {
+        reply: bring_reply(m.kind, m.word, m.clock, count),
+        message: Message::NONE,
+    }
+}
+
+// ---- to go
+// A word stored under the seat's clock.
+pub fn storing(s: Seat, word: u32) -> Cell
+    ensures { result ≡ held_cell word s.clock }
+{
+    held(word, s.clock)
+}
+
 pub fn desk_of(e: Event) -> usize
     ensures { result ≡ e.desk }
 {
@@ -351,44 +455,6 @@ pub fn brings(s: Seat, count: u32) -> Reply
     bring_reply(slot.kind, slot.word, slot.clock, count)
 }
 
-// ---- replies
-pub fn refused(code: u32) -> Reply
-    ensures { result ≡ refused_reply code }
-{
-    Reply {
-        code,
-        value: 0,
-        count: 0,
-    }
-}
-
-pub fn dropped(count: u32) -> Reply
-    ensures { result ≡ reply_of 0 0 count }
-{
-    Reply {
-        code: 0,
-        value: 0,
-        count,
-    }
-}
-
-// The table's 8 and 10; 0 where neither applies.
-#[tactic(auto, unfolding(theory_refusals::specs::Refusals::first_of))]
-pub fn unplaced(n: Counts, e: Event) -> u32
-    ensures { result ≡ first_of (place_lines n e) }
-{
-    let kind = e.kind;
-    let desks = n.desks as u32;
-    if !((1 <= kind) & (kind <= 5)) {
-        return 8;
-    }
-    if desks <= e.desk {
-        return 10;
-    }
-    0
-}
-
-// ---- what a walk asks of a record's desk, and of a message
 pub fn desk_index(desk: u8) -> usize
     ensures { result ≡ desk }
 {
@@ -424,75 +490,4 @@ pub fn brought_by(s: Seat, m: Message) -> Cell
     ensures { result ≡ brought_cell s.served m.word m.clock }
 {
     brought(s.served, m.word, m.clock)
-}
-
-// ---- answers
-pub fn refused_answer(code: u32) -> Answer
-    ensures { result ≡ refused_answer code }
-{
-    Answer {
-        reply: refused(code),
-        message: Message::NONE,
-    }
-}
-
-// A desk that asks (change 1) sends what stands in its slot.
-#[tactic(auto, unfolding(desk::specs::Parts::asked_message))]
-fn asked_message(change: u8, n: Counts, desk: u8, s: Slot) -> Message
-    ensures { result ≡ asked_message change n desk s }
-{
-    if change != 1 {
-        return Message::NONE;
-    }
-    let clock = s.clock;
-    Message {
-        kind: s.kind,
-        desks: n.desks,
-        desk,
-        cell: s.cell,
-        word: s.word,
-        clock,
-    }
-}
-
-// To an own event; s is the seat afterwards.
-#[tactic(auto, unfolding(desk::specs::Parts::own_answer))]
-pub fn own_answer(kept: bool, x: Cell, e: Event, n: Counts, desk: u8, s: Seat) -> Answer
-    ensures { result ≡ own_answer kept x e n desk s.slot }
-{
-    let change = change_of(kept, x, e);
-    let slot = s.slot;
-    Answer {
-        reply: own_reply(kept, x, e),
-        message: asked_message(change, n, desk, slot),
-    }
-}
-
-// To a request, with what the keeper's cell now has.
-pub fn served_answer(count: u32, m: Message, x: Cell) -> Answer
-    requires { m.kind < 3 }
-    ensures { result ≡ served_answer count m x }
-{
-    let clock = x.stamp;
-    let message = Message {
-        kind: answer_kind(m.kind),
-        desks: m.desks,
-        desk: m.desk,
-        cell: m.cell,
-        word: x.word,
-        clock,
-    };
-    Answer {
-        reply: dropped(count),
-        message,
-    }
-}
-
-pub fn brought_answer(count: u32, m: Message) -> Answer
-    ensures { result ≡ brought_answer count m }
-{
-    Answer {
-        reply: bring_reply(m.kind, m.word, m.clock, count),
-        message: Message::NONE,
-    }
 }
