@@ -1,3 +1,3 @@
 pub mod Clock
 pub mod Laws
-pub mod Order
+pub mod Causal
