@@ -1,11 +1,12 @@
 #![tactic(auto)]
 // A clock: eight 32-bit numbers, one per desk. It tells which writes a desk knows of.
-ghost use Rattle.std.specs.Prelude.{◌≡◌, ◌==◌, drop};
+ghost use Rattle.std.specs.Prelude.{◌≡◌, ◌==◌, bit_or, drop};
 ghost use Rattle.std.specs.List.{list_all};
-ghost use Rattle.clock.specs.Clock.{zero_clock, merged, is_before, is_within};
+ghost use Rattle.clock.specs.Clock.{zero_clock, paired, merged, is_before, is_within};
 ghost use Rattle.clock.specs.Causal.{all_no_larger, causal_cmp, causal-laws};
 
 use std::cmp::Ordering;
+use std::ops::BitOr;
 
 #[repr(C)]
 #[derive(Clone, Copy, PartialEq, Eq, Debug)]
@@ -71,6 +72,30 @@ impl PartialOrd for Clock {
             (true, false) => Some(Ordering::Less),
             (false, true) => Some(Ordering::Greater),
             (false, false) => None,
+        }
+    }
+}
+
+// One clock laid over another, bit by bit. (A literal: it is what the soundness loops do, and by `array::from_fn` or a loop over the places they took
+// 1.2 times as long. A loop by `iter_mut` and `zip` is as fast, but its invariant has no name for what was written.)
+impl BitOr for Clock {
+    type Output = Clock;
+
+    ghost bitor_gives = { λ a b r. r.n ≡ paired bit_or a.n b.n };
+
+    fn bitor(self, other: Clock) -> Clock {
+        let (a, b) = (self.n, other.n);
+        Clock {
+            n: [
+                a[0] | b[0],
+                a[1] | b[1],
+                a[2] | b[2],
+                a[3] | b[3],
+                a[4] | b[4],
+                a[5] | b[5],
+                a[6] | b[6],
+                a[7] | b[7],
+            ],
         }
     }
 }

@@ -3,7 +3,7 @@
 // A walk over a table's or a record's entries calls these, each on small things by value.
 ghost use Rattle.std.specs.Prelude.{◌≡◌};
 ghost use Rattle.desk.specs.Desk.{kept_by};
-ghost use Rattle.desk_sums.specs.Sums.{no_sum, joined, or_past, rest_of, add_kept, add_clock, slot_bad, add_seat, add_seat_of, slot_cell, sum_fits};
+ghost use Rattle.desk_sums.specs.Sums.{no_sum, rest_of, add_kept, add_clock, slot_bad, add_seat, add_seat_of, slot_cell, sum_fits};
 ghost use Rattle.desk_sums.specs.Sums.{used_by, record_fits, row_count};
 
 use clock::Clock;
@@ -33,45 +33,8 @@ pub fn no_sum() -> Sum
     Sum::NONE
 }
 
-// One clock laid over another, bit by bit.
-fn over(a: Clock, b: Clock) -> Clock
-    ensures { result ≡ joined a b }
-{
-    Clock {
-        n: [
-            a.n[0] | b.n[0],
-            a.n[1] | b.n[1],
-            a.n[2] | b.n[2],
-            a.n[3] | b.n[3],
-            a.n[4] | b.n[4],
-            a.n[5] | b.n[5],
-            a.n[6] | b.n[6],
-            a.n[7] | b.n[7],
-        ],
-    }
-}
-
-fn or8(s: Clock) -> u32
-    ensures { result ≡ or_past s 0 }
-{
-    s.n[0] | s.n[1] | s.n[2] | s.n[3] | s.n[4] | s.n[5] | s.n[6] | s.n[7]
-}
-
-// The numbers from desk d on.
-fn or_past(s: Clock, d: usize) -> u32
-    ensures { result ≡ or_past s d }
-{
-    let mut all: u32 = 0;
-    let mut k = d;
-    while k < 8 {
-        all = all | s.n[k];
-        k = k + 1;
-    }
-    all
-}
-
 // A cell that is none of the tray's.
-#[tactic(auto, unfolding(crate::specs::Sums::rest_of, crate::specs::Sums::add_clock))]
+#[tactic(auto, unfolding(crate::specs::Sums::rest_of, crate::specs::Sums::add_clock, crate::specs::Sums::joined))]
 pub fn rest(s: Sum, x: Cell) -> Sum
     ensures { result ≡ rest_of s x }
 {
@@ -80,14 +43,14 @@ pub fn rest(s: Sum, x: Cell) -> Sum
     let z = s.z;
     Sum {
         h,
-        z: over(z, stamp),
+        z: z | stamp,
         w: s.w | (x.word as u64) | (x.held as u64),
     }
 }
 
 // A cell of the tray. A held one whose stamp is all zeros is added as one that is not held, so that its word must be 0. (`kept` is looked at only
 // where no stamp is held: a keeper's cells cost nothing.)
-#[tactic(auto, unfolding(crate::specs::Sums::add_kept, crate::specs::Sums::add_clock))]
+#[tactic(auto, unfolding(crate::specs::Sums::add_kept, crate::specs::Sums::add_clock, crate::specs::Sums::joined))]
 pub fn add_kept(s: Sum, kept: bool, x: Cell) -> Sum
     ensures { result ≡ add_kept s kept x }
 {
@@ -96,20 +59,20 @@ pub fn add_kept(s: Sum, kept: bool, x: Cell) -> Sum
     let z = s.z;
     if x.held & !is_blank(stamp) {
         return Sum {
-            h: over(h, stamp),
+            h: h | stamp,
             z,
             w: s.w,
         };
     }
     Sum {
         h,
-        z: over(z, stamp),
+        z: z | stamp,
         w: s.w | (x.word as u64) | ((kept & !x.held) as u64),
     }
 }
 
 // A clock that may be there, with any word; or that must be zero, with its word.
-#[tactic(auto, unfolding(crate::specs::Sums::add_clock))]
+#[tactic(auto, unfolding(crate::specs::Sums::add_clock, crate::specs::Sums::joined))]
 fn add_clock(s: Sum, carried: bool, c: Clock, word: u32) -> Sum
     ensures { result ≡ add_clock s carried c word }
 {
@@ -117,14 +80,14 @@ fn add_clock(s: Sum, carried: bool, c: Clock, word: u32) -> Sum
     let z = s.z;
     if carried {
         return Sum {
-            h: over(h, c),
+            h: h | c,
             z,
             w: s.w,
         };
     }
     Sum {
         h,
-        z: over(z, c),
+        z: z | c,
         w: s.w | (word as u64),
     }
 }
@@ -195,13 +158,12 @@ pub fn sum_fits_in(s: Sum, n: Counts) -> bool
     sum_fits(s, n.desks)
 }
 
-#[tactic(auto, unfolding(crate::specs::Sums::sum_fits))]
 pub fn sum_fits(s: Sum, desks: u8) -> bool
     ensures { result ≡ sum_fits s desks }
 {
     let h = s.h;
     let z = s.z;
-    (s.w == 0) & ((or8(z) | or_past(h, desks as usize)) == 0)
+    (s.w == 0) & (z.within(0) & h.within(desks))
 }
 
 // A record without its row, and the row's sum: whether the record is sound.

@@ -33,10 +33,7 @@ loop-k-init c = refl
 
 pub loop-k-preserved : goal.loop-k-preserved
 loop-k-preserved c =
-    let k = c.loop-k.k in
-    let l = c.loop-k.number-items in
-    let larger : c.max.result ≡ max (get_or l k 0) (number c.args.other k) = search (rules, tests) in
-    replaced-more c.args.self c.args.other l k c.max.result c.loop-k.invariant larger
+    replaced-more c.args.self c.args.other c.loop-k.number-items c.loop-k.k _ c.loop-k.invariant (search (rules, tests))
 
 pub returns : goal.returns
 returns c =
