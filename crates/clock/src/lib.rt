@@ -1,7 +1,6 @@
 #![tactic(auto)]
 // A clock: eight 32-bit numbers, one per desk. It tells which writes a desk knows of.
-ghost use Rattle.std.specs.Prelude.{◌≡◌, ◌==◌, bit_or, drop};
-ghost use Rattle.std.specs.List.{list_all};
+ghost use Rattle.std.specs.Prelude.{◌≡◌, bit_or};
 ghost use Rattle.clock.specs.Clock.{zero_clock, paired, merged, is_before, is_within};
 ghost use Rattle.clock.specs.Causal.{all_no_larger, causal_cmp, causal-laws};
 
@@ -38,19 +37,17 @@ impl Clock {
     }
 
     // Whether the numbers past the desk count are 0.
-    #[tactic(auto, using(crate::proofs::Numbers::zeros_past))]
+    // (Places counted and no early end: `iter().skip(desks).all(..)` took the table's soundness from 0.61 of the twin's time to 1.07.)
     pub fn within(self, desks: u8) -> bool
         ensures { result ≡ is_within desks self }
     {
-        all_zero(&self.n, desks as usize)
+        let count = desks as usize;
+        let mut rest_zero = true;
+        for place in 0..8 {
+            rest_zero = rest_zero & ((place < count) | (self.n[place] == 0));
+        }
+        rest_zero
     }
-}
-
-// The numbers from place d on are 0. (`skip`, where d is 0 too: a plain `iter` there is left early and took the soundness loop 1.6 times as long.)
-fn all_zero(numbers: &[u32], d: usize) -> bool
-    ensures { result ≡ list_all (λ x. x == 0) (drop d numbers.now) }
-{
-    numbers.iter().skip(d).all(|number| *number == 0)
 }
 
 // No number is larger than the other clock's.
