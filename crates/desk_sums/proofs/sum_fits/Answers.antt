@@ -1,8 +1,0 @@
-use Rattle.std.proofs.Common.{rules, tests}
-use Rattle.desk_sums.specs.Laws.{fits-is}
-use Rattle.desk_sums.proofs.sum_fits.Goals as goal
-
-pub returns : goal.returns
-returns c =
-    let said = fits-is c.args.s c.args.desks in
-    rw said (search (rules, tests))
