@@ -3,7 +3,7 @@ ghost use Rattle.std.specs.Prelude.{◌≡◌, ◌≤◌, length};
 ghost use Rattle.desk.specs.Desk.{cell_at, place_at};
 ghost use Rattle.desk_sums.specs.Rows.{used_sum, past_sum, row_sum};
 
-use crate::{Sum, add_kept, rest};
+use crate::Sum;
 use desk::{Cell, Tray};
 
 // Cells that are the tray's, each with its place.
@@ -13,7 +13,7 @@ fn used_sum(cells: &[Cell], t: &Tray, d: usize, s: Sum) -> Sum
 {
     let mut sum = s;
     for (c, x) in cells.iter().enumerate() {
-        sum = add_kept(sum, t.places[c].kept_by(d), *x);
+        sum = sum.used(t.places[c].kept_by(d), *x);
     }
     sum
 }
@@ -24,7 +24,7 @@ fn past_sum(cells: &[Cell], s: Sum) -> Sum
 {
     let mut sum = s;
     for x in cells {
-        sum = rest(sum, *x);
+        sum = sum.rest(*x);
     }
     sum
 }
