@@ -1,37 +1,30 @@
 -- The sums, with a sound tray, are soundness.
-use Rattle.std.proofs.Common.{◌≡◌, sym, ap, ◌∙◌, rules}
+use Rattle.std.proofs.Common.{◌≡◌, true, ◌∙◌, sym, length, rules}
+use Rattle.std.proofs.Math.Bool.{and_comm}
+use Rattle.desk.specs.Desk.{cell_at}
 use Rattle.desk.specs.Sound.{tray_sound}
+use Rattle.desk.specs.SoundLaws.{tray-rule}
+use Rattle.desk_sums.specs.Rows.{cells_sum, seats_sum}
+use Rattle.desk_sums.specs.Sums.{sum_fits}
 use Rattle.table.specs.Rows.{Sized}
-use Rattle.table_sound.proofs.Whole.{bad-tray, bad-seats, by-cells, seats-told, cells-told, few-cells}
+use Rattle.table.specs.Sound.{table_sound}
+use Rattle.table.specs.Table.{seat_of}
+use Rattle.table_sums.specs.Sums.{table_fits}
 use Rattle.table_sound.proofs.sound.Goals as goal
 
 pub returns-then-not-tray_sound : goal.returns-then-not-tray_sound
-returns-then-not-tray_sound c =
-    let t = c.args.t.now in
-    let z : Sized t = record { all-cells = search rules; all-places = search rules; all-seats = search rules } in
-    (bad-tray t z (ap tray_sound (sym c.tray.ensures.0) ∙ sym c.tray_sound.ensures ∙ c.if-not-tray_sound.true), c.tray.ensures.1)
-
-pub returns-then-not-sum_fits_in : goal.returns-then-not-sum_fits_in
-returns-then-not-sum_fits_in c =
-    let t = c.args.t.now in
-    let z : Sized t = record { all-cells = search rules; all-places = search rules; all-seats = search rules } in
-    let told = seats-told t c.tray.new.t c.seats_sum.new.t c.seats_sum.result c.counts.result c.sum_fits_in.result
-    c.tray.ensures.1 c.seats_sum.ensures.1 c.counts.ensures.0 c.sum_fits_in.ensures c.seats_sum.ensures.0 in
-    (bad-seats t z (sym told ∙ c.if-not-sum_fits_in.true), c.counts.ensures.1 ∙ c.seats_sum.ensures.1 ∙ c.tray.ensures.1)
+unfolding table_sound
+returns-then-not-tray_sound c = rw (← c.tray_sound.ensures, c.if-not-tray_sound.true)
 
 pub cells_sum-requires : goal.cells_sum-requires
 cells_sum-requires c =
-    few-cells c.args.t.now c.counts.new.t (c.counts.ensures.1 ∙ c.seats_sum.ensures.1 ∙ c.tray.ensures.1)
-    (ap tray_sound (sym c.tray.ensures.0) ∙ sym c.tray_sound.ensures ∙ c.if-not-tray_sound.false)
+    let long : length c.args.t.now.cells ≡ 256 = search rules in
+    (long, (tray-rule c.args.t.now.tray (sym c.tray_sound.ensures ∙ c.if-not-tray_sound.false)).cells-most)
 
 pub returns : goal.returns
 returns c =
     let t = c.args.t.now in
     let z : Sized t = record { all-cells = search rules; all-places = search rules; all-seats = search rules } in
-    let ok = ap tray_sound (sym c.tray.ensures.0) ∙ sym c.tray_sound.ensures ∙ c.if-not-tray_sound.false in
-    let same : c.counts.new.t ≡ t = c.counts.ensures.1 ∙ c.seats_sum.ensures.1 ∙ c.tray.ensures.1 in
-    let seats = seats-told t c.tray.new.t c.seats_sum.new.t c.seats_sum.result c.counts.result c.sum_fits_in.result
-    c.tray.ensures.1 c.seats_sum.ensures.1 c.counts.ensures.0 c.sum_fits_in.ensures c.seats_sum.ensures.0 in
-    let cells = cells-told t c.counts.new.t c.cells_sum.new.t c.cells_sum.result c.counts-2.result c.sum_fits_in-2.result
-    same c.cells_sum.ensures.1 c.counts-2.ensures.0 c.sum_fits_in-2.ensures c.cells_sum.ensures.0 in
-    (cells ∙ by-cells t z ok (sym seats ∙ c.if-not-sum_fits_in.false), c.counts-2.ensures.1 ∙ c.cells_sum.ensures.1 ∙ same)
+    let ok : tray_sound t.tray ≡ true = sym c.tray_sound.ensures ∙ c.if-not-tray_sound.false in
+    rw (c.fits.ensures, c.fits-2.ensures, c.seats_sum-seats.ensures, c.cells_sum.ensures, z.all-seats, table_fits t z, ok)
+    (and_comm (sum_fits (seats_sum t.tray (seat_of t) 8) t.tray.counts.desks) (sum_fits (cells_sum t.tray (cell_at t.cells) 8) t.tray.counts.desks))
