@@ -33,6 +33,3 @@ pub returns-clause-code : goal.returns-clause-code
 returns-clause-code c =
     let none : T (not (not (eqb (unplaced_of c.args.t.now c.args.e) 0))) = rw (← c.in_ok-unplaced.ensures) tt in
     c.seat_refusal.ensures ∙ unplaced-none c.args.t.now c.args.e c.requires none
-
-pub returns-clause-sized : goal.returns-clause-sized
-returns-clause-sized c e = record { all-cells = search rules; all-places = search rules; all-seats = search rules }

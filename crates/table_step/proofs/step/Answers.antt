@@ -1,14 +1,11 @@
 -- A refusal, or what is done.
-use Rattle.std.proofs.Common.{refl, ◌∙◌, sym, ap, eqb}
+use Rattle.std.proofs.Common.{◌∙◌, ap, eqb}
 use Rattle.std.specs.Prelude.{T, not}
 use Rattle.desk.specs.Rules.{refused_reply}
 use Rattle.table.specs.Rules.{refusal}
 use Rattle.table.specs.Turn.{step-refused, step-done}
 use Rattle.table_step.proofs.Codes.{some}
 use Rattle.table_step.proofs.step.Goals as goal
-
-pub done-requires : goal.done-requires
-done-requires c = (sym c.in-Ok.ensures.code, c.in-Ok.ensures.sized refl)
 
 pub returns-in-Ok : goal.returns-in-Ok
 returns-in-Ok c =
