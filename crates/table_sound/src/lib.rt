@@ -42,6 +42,8 @@ pub fn sound(t: &Table) -> bool
         return false;
     }
     let n = t.tray.counts;
-    let seats = seats_sum(&t.seats, n, &t.tray.places);
-    seats.fits(n.desks) & cells_sum(&t.cells, &t.tray).fits(n.desks)
+    if !seats_sum(&t.seats, n, &t.tray.places).fits(n.desks) {
+        return false;
+    }
+    cells_sum(&t.cells, &t.tray).fits(n.desks)
 }
