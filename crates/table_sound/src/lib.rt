@@ -1,83 +1,49 @@
 #![tactic(auto)]
 // Whether a table is sound, where it lies: everything that must fit is laid into one sum, which is tested at the end.
-ghost use Rattle.std.specs.Prelude.{◌≡◌, ◌+◌, ◌*◌, ◌<◌, ◌≤◌};
-ghost use Rattle.desk.specs.Desk.{cell_at, place_at};
-ghost use Rattle.desk_sums.specs.Rows.{used_sum, past_sum, cells_sum, seats_sum};
+ghost use Rattle.std.specs.Prelude.{◌≡◌, ◌≤◌, length, get_or};
+ghost use Rattle.desk.specs.Desk.{cell_at, past_seat};
+ghost use Rattle.desk_sums.specs.Rows.{cells_sum, seats_sum};
 ghost use Rattle.table.specs.Sound.{table_sound};
-ghost use Rattle.table.specs.Table.{seat_of};
 
 use desk::sound::tray_sound;
-use desk_acts::at;
-use desk_sums::{Sum, add_kept, add_seat_of, keeps, no_sum, rest, slot_cell, sum_fits_in, used_by};
+use desk::{Cell, Counts, Place, Seat, Tray};
+use desk_sums::rows::row_sum;
+use desk_sums::{Sum, slot_cell, used_by};
 use table::Table;
-use table_parts::{cell_at, counts, place, seat_of, tray};
 
-// The first n cells of desk d, which are the tray's.
-fn used_sum(t: &mut Table, d: usize, n: usize, s: Sum) -> Sum
-    requires { (d < 8) × (n ≤ 32) }
-    ensures { (result ≡ used_sum (place_at t.old.tray) (λ c. cell_at t.old.cells (d * 32 + c)) d s n) × (t.new ≡ t.old) }
+fn seats_sum(seats: &[Seat], n: Counts, places: &[Place]) -> Sum
+    requires { length places.now ≡ 32 }
+    ensures { result ≡ seats_sum (record { counts = n; places = places.now }) (λ d. get_or seats.now d past_seat) (length seats.now) }
 {
-    let mut sum = s;
-    let mut c: usize = 0;
-    while c < n {
-        sum = add_kept(sum, keeps(place(t, c), d), cell_at(t, at(d, c)));
-        c = c + 1;
+    let mut sum = Sum::NONE;
+    for (d, s) in seats.iter().enumerate() {
+        sum = sum.seat_of(n, d, places[slot_cell(*s)], *s);
     }
     sum
 }
 
-// Its other cells, which are not.
-fn past_sum(t: &mut Table, d: usize, n: usize, s: Sum) -> Sum
-    requires { (d < 8) × (n ≤ 32) }
-    ensures { (result ≡ past_sum (λ c. cell_at t.old.cells (d * 32 + c)) n s 32) × (t.new ≡ t.old) }
+// (Rows by their desk's number: over `chunks_exact(32).enumerate()` the proof did not close, since `search` finds no place for an item.)
+fn cells_sum(cells: &[Cell], t: &Tray) -> Sum
+    requires { (length cells.now ≡ 256) × (t.now.counts.cells ≤ 32) }
+    ensures { result ≡ cells_sum t.now (cell_at cells.now) 8 }
 {
-    let mut sum = s;
-    let mut c = n;
-    while c < 32 {
-        sum = rest(sum, cell_at(t, at(d, c)));
-        c = c + 1;
+    let mut sum = Sum::NONE;
+    for d in 0..8 {
+        let n = used_by(t.counts, d);
+        sum = row_sum(&cells[d * 32..d * 32 + 32], t, d, n, sum);
     }
     sum
 }
 
-fn cells_sum(t: &mut Table) -> Sum
-    requires { t.old.tray.counts.cells ≤ 32 }
-    ensures { (result ≡ cells_sum t.old.tray (cell_at t.old.cells) 8) × (t.new ≡ t.old) }
+pub fn sound(t: &Table) -> bool
+    ensures { result ≡ table_sound t.now }
 {
-    let mut sum = no_sum();
-    let mut d: usize = 0;
-    while d < 8 {
-        let n = used_by(counts(t), d);
-        sum = used_sum(t, d, n, sum);
-        sum = past_sum(t, d, n, sum);
-        d = d + 1;
-    }
-    sum
-}
-
-fn seats_sum(t: &mut Table) -> Sum
-    ensures { (result ≡ seats_sum t.old.tray (seat_of t.old) 8) × (t.new ≡ t.old) }
-{
-    let mut sum = no_sum();
-    let mut d: usize = 0;
-    while d < 8 {
-        let s = seat_of(t, d);
-        sum = add_seat_of(sum, counts(t), d, place(t, slot_cell(s)), s);
-        d = d + 1;
-    }
-    sum
-}
-
-pub fn sound(t: &mut Table) -> bool
-    ensures { (result ≡ table_sound t.old) × (t.new ≡ t.old) }
-{
-    // (What is read of the table tells the proof that its arrays have their lengths.)
-    let _mark = t.seats[0].served;
-    if !tray_sound(tray(t)) {
+    if !tray_sound(t.tray) {
         return false;
     }
-    if !sum_fits_in(seats_sum(t), counts(t)) {
+    let n = t.tray.counts;
+    if !seats_sum(&t.seats, n, &t.tray.places).fits(n.desks) {
         return false;
     }
-    sum_fits_in(cells_sum(t), counts(t))
+    cells_sum(&t.cells, &t.tray).fits(n.desks)
 }

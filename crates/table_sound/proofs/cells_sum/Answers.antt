@@ -1,21 +1,22 @@
--- One row more is what `row-more` says.
-use Rattle.std.proofs.Common.{refl, ◌∙◌, sym, arith}
-use Rattle.desk.specs.Desk.{cell_at}
-use Rattle.desk_sums.specs.Rows.{cells-none}
-use Rattle.table_sound.proofs.Rows.{row-more}
+-- One row more is what `cells-next` says.
+use Rattle.std.proofs.Common.{◌≡◌, ◌+◌, ◌-◌, ◌*◌, ◌≤◌, ℕ, ◌∙◌, sym, take, drop, get_or-take, get_or-drop, ltb, arith}
+use Rattle.desk.specs.Desk.{past_cell, cell_at, place_at}
+use Rattle.desk_sums.proofs.Parts.{row_same}
+use Rattle.desk_sums.specs.Rows.{row_of, cells_sum, cells-none, cells-next}
+use Rattle.theory_lists.specs.Test.{whichever}
 use Rattle.table_sound.proofs.cells_sum.Goals as goal
 
 pub loop-d-init : goal.loop-d-init
-loop-d-init c =
-    let t = c.args.t.now in
-    record { same = refl; most = omega arith; so_far = c.no_sum-sum.ensures ∙ sym (cells-none t.tray (cell_at t.cells)) }
+loop-d-init c = sym (cells-none c.args.t.now (cell_at c.args.cells.now))
 
 pub loop-d-preserved : goal.loop-d-preserved
-loop-d-preserved c = record {
-  same = c.past_sum-sum.ensures.1 ∙ c.used_sum-sum.ensures.1 ∙ c.counts.ensures.1 ∙ c.loop-d.invariant.same;
-  most = omega arith;
-  so_far =
-      row-more c.args.t.now c.loop-d.d c.used_by-n.result c.counts.result c.loop-d.sum c.used_sum-sum.result c.past_sum-sum.result
-      c.loop-d.t c.counts.new.t c.used_sum-sum.new.t c.loop-d.invariant.same c.counts.ensures.0 c.counts.ensures.1 c.used_by-n.ensures
-      c.used_sum-sum.ensures.0 c.used_sum-sum.ensures.1 c.past_sum-sum.ensures.0 c.loop-d.invariant.so_far;
-}
+loop-d-preserved c =
+    let t = c.args.t.now in
+    let cells = c.args.cells.now in
+    let d = c.loop-d.d in
+    let most = whichever (λ (n : ℕ). n ≤ 32) (ltb d t.counts.desks) t.counts.cells 0 c.requires.1 (omega arith) in
+    let same = row_same (place_at t) (cell_at (take (d * 32 + 32 - d * 32) (drop (d * 32) cells))) (row_of (cell_at cells) d) d c.used_by-n.result c.loop-d.sum
+    (rw c.used_by-n.ensures most)
+    (λ k h. get_or-take (d * 32 + 32 - d * 32) (drop (d * 32) cells) k past_cell (omega arith) ∙ get_or-drop (d * 32) cells k past_cell) in
+    let so-far : c.loop-d.sum ≡ cells_sum t (cell_at cells) d = c.loop-d.invariant in
+    c.row_sum-sum.ensures ∙ same ∙ rw (c.used_by-n.ensures, so-far) (sym (cells-next t (cell_at cells) d))

@@ -1,15 +1,8 @@
--- At the count d the sum is that of the first d seats, and the table is as it was.
-use Rattle.std.proofs.Common.{◌-◌, ◌≡◌, ◌≤◌}
+-- The sum is that of the seats passed.
+use Rattle.std.proofs.Common.{◌≡◌, get_or}
+use Rattle.desk.specs.Desk.{past_seat}
 use Rattle.desk_sums.specs.Rows.{seats_sum}
-use Rattle.table.specs.Table.{seat_of}
 use Rattle.table_sound.proofs.seats_sum.Given as goal
 
 abbrev pub invariant-loop-d : goal.invariant-loop-d
-invariant-loop-d l = record {
-  same : l.t ≡ l.fn.t;
-  most : l.d ≤ 8;
-  so_far : l.sum ≡ seats_sum l.fn.t.tray (seat_of l.fn.t) l.d;
-}
-
-abbrev pub decreases-loop-d : goal.decreases-loop-d
-decreases-loop-d l = 8 - l.d
+invariant-loop-d l = l.sum ≡ seats_sum (record { counts = l.n; places = l.places }) (λ d. get_or l.seats d past_seat) l.d

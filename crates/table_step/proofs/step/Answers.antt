@@ -1,24 +1,20 @@
 -- A refusal, or what is done.
-use Rattle.std.proofs.Common.{◌∙◌, sym, ap}
+use Rattle.std.proofs.Common.{◌∙◌, ap, eqb}
+use Rattle.std.specs.Prelude.{T, not}
 use Rattle.desk.specs.Rules.{refused_reply}
-use Rattle.table.specs.declared.Table.{Table}
-use Rattle.table.specs.Rules.{refusal, done}
+use Rattle.table.specs.Rules.{refusal}
 use Rattle.table.specs.Turn.{step-refused, step-done}
-use Rattle.table_step.proofs.Codes.{some-code, no-code}
+use Rattle.table_step.proofs.Codes.{some}
 use Rattle.table_step.proofs.step.Goals as goal
 
-pub returns-then-code-ne0 : goal.returns-then-code-ne0
-returns-then-code-ne0 c =
-    let t = c.args.t.now in
-    let e = c.args.e in
-    let same = step-refused t e (some-code (refusal t e) (λ q. c.if-code-ne0.true (c.refusal-code.ensures.0 ∙ q))) in
-    (c.refused.ensures ∙ ap refused_reply c.refusal-code.ensures.0 ∙ same.0, c.refusal-code.ensures.1 ∙ same.1)
+pub returns-in-Ok : goal.returns-in-Ok
+returns-in-Ok c =
+    let none : T (not (not (eqb (refusal c.args.t.now c.args.e) 0))) = rw (← c.in-Ok.ensures.code) tt in
+    let same = step-done c.args.t.now c.args.e none in
+    (c.done.ensures.0 ∙ same.1, c.done.ensures.1 ∙ same.2)
 
-pub returns : goal.returns
-returns c =
-    let t = c.args.t.now in
-    let e = c.args.e in
-    let none = step-done t e (no-code (refusal t e) (sym c.refusal-code.ensures.0 ∙ c.if-code-ne0.false)) in (
-      c.done.ensures.0 ∙ ap (λ (u : Table). (done u e).reply) c.refusal-code.ensures.1 ∙ none.1,
-      c.done.ensures.1 ∙ ap (λ (u : Table). (done u e).after) c.refusal-code.ensures.1 ∙ none.2,
-    )
+pub returns-in-Err : goal.returns-in-Err
+returns-in-Err c =
+    let code : T (not (eqb (refusal c.args.t.now c.args.e) 0)) = rw (← c.in-Err.ensures.code) (some c.in-Err.r) in
+    let same = step-refused c.args.t.now c.args.e code in
+    (c.refused.ensures ∙ ap refused_reply (c.number.ensures ∙ c.in-Err.ensures.code) ∙ same.0, same.1)
