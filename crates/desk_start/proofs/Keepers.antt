@@ -1,6 +1,6 @@
 -- A plan's keepers: that all those below the cell count are desks, and the places that they make.
 -- Assumes nothing.
-use Rattle.std.proofs.Common.{◌≡◌, refl, sym, ap, ◌∙◌, Bool, true, not, ◌&&◌, ◌||◌, ℕ, zero, suc, ◌<◌, ltb, List, [], ◌∷◌, length, take, get_or, replicate, arith, lt-ltb, le-ltb, ext_get_or}
+use Rattle.std.proofs.Common.{◌≡◌, sym, ap, ◌∙◌, Bool, true, not, ◌&&◌, ◌||◌, ℕ, zero, suc, ◌<◌, ltb, List, [], ◌∷◌, length, take, get_or, replicate, arith, lt-ltb, le-ltb, ext_get_or}
 use Rattle.std.proofs.Math.Bool.{and_assoc, and-true}
 use Rattle.std.proofs.Math.Decide.{dec_lt}
 use Rattle.std.proofs.lemmas.Bool.Decides.{nat_tests}

@@ -42,6 +42,7 @@ fn fresh(v: &mut Record, t: Tray, desk: u8)
     clear(v);
     v.tray = t;
     v.desk = desk;
+    // No `zip` with the row, as in `tray`.
     for (c, p) in t.places[..t.counts.cells as usize].iter().enumerate() {
         if p.kept_by(desk as usize) {
             v.row[c] = Cell::BLANK;
@@ -78,10 +79,10 @@ fn keepers_right(plan: &Plan) -> bool
 pub fn check_plan(plan: &Plan) -> Result<(), Refusal>
     ensures { code_of result ≡ set_up_refusal plan.now }
 {
-    if !((1 <= plan.desks) & (plan.desks <= 8)) {
+    if !(1..=8).contains(&plan.desks) {
         return Err(Refusal::DeskCount);
     }
-    if !((1 <= plan.cells) & (plan.cells <= 32)) {
+    if !(1..=32).contains(&plan.cells) {
         return Err(Refusal::CellCount);
     }
     if !keepers_right(plan) {
@@ -96,6 +97,7 @@ pub fn tray(plan: &Plan) -> Tray
 {
     let cells = plan.cells as usize;
     let mut places = [Place::NONE; 32];
+    // No `zip` with the places: of an adapter of `iter_mut` the proof knows no values.
     for (c, k) in plan.keepers[..cells].iter().enumerate() {
         places[c].keeper = *k as u8;
     }

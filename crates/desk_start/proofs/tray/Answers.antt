@@ -36,9 +36,6 @@ loop-c-preserved c =
 pub overflow_cast-result : goal.overflow_cast-result
 overflow_cast-result c = record { fits = omega (arith, (settled c.args.plan.now c.requires).desks-most) }
 
-pub overflow_cast-result-2 : goal.overflow_cast-result-2
-overflow_cast-result-2 c = record { fits = omega (arith, (settled c.args.plan.now c.requires).cells-most) }
-
 pub returns : goal.returns
 unfolding fresh_tray
 returns c =
