@@ -1,135 +1,105 @@
 #![tactic(auto)]
 // Starting: a tray as it is set up, and a desk's fresh record on it. The table sets itself up from the same parts.
-ghost use Rattle.std.specs.Prelude.{◌≡◌, ◌≤◌, replicate};
-ghost use Rattle.desk.specs.Desk.{no_cell};
-ghost use Rattle.desk.specs.Rules.{with_row};
-ghost use Rattle.desk.specs.Start.{fresh_tray, no_tray, no_record, keepers_right, set_up_refusal, start_refusal, start_rule};
-ghost use Rattle.desk.specs.StartInPlace.{kept_in};
+ghost use Rattle.std.specs.Prelude.{◌≡◌, ◌≤◌};
+ghost use Rattle.theory_refusals.specs.Numbers.{code_of};
+ghost use Rattle.desk.specs.Start.{fresh_record, fresh_tray, keepers_right, no_record, set_up_refusal, start_refusal, start_rule};
 
-use desk::{Cell, Counts, Place, Plan, Record, Tray};
-use desk_acts::{cells_of, desk_index};
-use desk_parts::{
-    clear_own, clear_own_seat, keep_own, own_counts, own_desk, own_place, put_own_desk,
-    put_own_tray,
-};
-use desk_sums::keeps;
+use desk::{Cell, Counts, Place, Plan, Record, Seat, Tray};
+use theory_refusals::Refusal;
 
 // A desk's record for any plan and any number, in place of the one that is lent.
 pub fn start(v: &mut Record, plan: Plan, desk: u32) -> u32
     ensures { (result ≡ (start_rule plan desk).code) × (v.new ≡ (start_rule plan desk).«record») }
 {
-    let code = start_refusal(plan, desk);
-    clear(v);
-    if code != 0 {
-        return code;
+    match check_start(&plan, desk) {
+        Ok(()) => {
+            fresh(v, tray(&plan), desk as u8);
+            0
+        }
+        Err(r) => {
+            clear(v);
+            r.number()
+        }
     }
-    put_own_tray(v, tray(plan));
-    put_own_desk(v, desk as u8);
-    keep(v);
-    0
 }
 
 // All zero: what a refusal leaves, and what a fresh record is made from.
-#[tactic(auto, unfolding(desk::specs::Start::no_record))]
+#[tactic(auto, unfolding(desk::specs::Start::no_record, desk::specs::Start::no_tray))]
 fn clear(v: &mut Record)
     ensures { v.new ≡ no_record }
 {
-    put_own_tray(v, no_tray());
-    put_own_desk(v, 0);
-    clear_own_seat(v);
-    clear_row(v);
-}
-
-fn clear_row(v: &mut Record)
-    ensures { v.new ≡ with_row v.old (replicate 32 no_cell) }
-{
-    // Read as a slice, the row shows the proof its length.
-    let _row: &[Cell] = &v.row;
-    let mut c: usize = 0;
-    while c < 32 {
-        clear_own(v, c);
-        c = c + 1;
-    }
+    v.tray = Tray::NONE;
+    v.desk = 0;
+    v.seat = Seat::NONE;
+    v.row = [Cell::NONE; 32];
 }
 
 // The desk holds the cells that it keeps, blank.
-fn keep(v: &mut Record)
-    requires { v.old.tray.counts.cells ≤ 32 }
-    ensures { v.new ≡ kept_in v.old }
+fn fresh(v: &mut Record, t: Tray, desk: u8)
+    requires { t.counts.cells ≤ 32 }
+    ensures { v.new ≡ fresh_record t desk }
 {
-    let d = desk_index(own_desk(v));
-    let n = cells_of(own_counts(v));
-    let mut c: usize = 0;
-    while c < n {
-        if keeps(own_place(v, c), d) {
-            keep_own(v, c);
+    clear(v);
+    v.tray = t;
+    v.desk = desk;
+    // No `zip` with the row, as in `tray`.
+    for (c, p) in t.places[..t.counts.cells as usize].iter().enumerate() {
+        if p.kept_by(desk as usize) {
+            v.row[c] = Cell::BLANK;
         }
-        c = c + 1;
     }
 }
 
-#[tactic(auto, unfolding(desk::specs::Start::no_tray))]
-pub fn no_tray() -> Tray
-    ensures { result ≡ no_tray }
-{
-    Tray::NONE
-}
-
-// What setting up refuses, then a number that is no desk; 0 where nothing is wrong.
+// What setting up refuses, and a number that is no desk.
 #[tactic(auto, unfolding(desk::specs::Start::start_refusal, desk::specs::Start::start_lines, desk::specs::Start::set_up_refusal, desk::specs::Start::set_up_lines, theory_refusals::specs::Refusals::first_of))]
-fn start_refusal(plan: Plan, desk: u32) -> u32
-    ensures { result ≡ start_refusal plan desk }
+fn check_start(plan: &Plan, desk: u32) -> Result<(), Refusal>
+    ensures { code_of result ≡ start_refusal plan.now desk }
 {
-    let set_up = refusal(plan);
-    if set_up != 0 {
-        return set_up;
-    }
+    check_plan(plan)?;
     if plan.desks <= desk {
-        return 10;
+        return Err(Refusal::NoSuchDesk);
     }
-    0
+    Ok(())
 }
 
 // Whether every keeper below the cell count is a desk.
-fn keepers_right(plan: Plan) -> bool
-    requires { plan.cells ≤ 32 }
-    ensures { result ≡ keepers_right plan }
+fn keepers_right(plan: &Plan) -> bool
+    requires { plan.now.cells ≤ 32 }
+    ensures { result ≡ keepers_right plan.now }
 {
     let cells = plan.cells as usize;
-    let mut right = true;
-    for c in 0..cells {
-        right = right & (plan.keepers[c] < plan.desks);
-    }
-    right
+    // `all` branches at each, to stop at the first that is none: a start at 8 x 32 took 66 ns with it, and takes 58.
+    plan.keepers[..cells]
+        .iter()
+        .fold(true, |right, k| right & (*k < plan.desks))
 }
 
-// What setting up refuses; 0 where nothing is wrong.
+// What setting up refuses.
 #[tactic(auto, unfolding(desk::specs::Start::set_up_refusal, desk::specs::Start::set_up_lines, theory_refusals::specs::Refusals::first_of))]
-pub fn refusal(plan: Plan) -> u32
-    ensures { result ≡ set_up_refusal plan }
+pub fn check_plan(plan: &Plan) -> Result<(), Refusal>
+    ensures { code_of result ≡ set_up_refusal plan.now }
 {
-    if !((1 <= plan.desks) & (plan.desks <= 8)) {
-        return 20;
+    if !(1..=8).contains(&plan.desks) {
+        return Err(Refusal::DeskCount);
     }
-    if !((1 <= plan.cells) & (plan.cells <= 32)) {
-        return 21;
+    if !(1..=32).contains(&plan.cells) {
+        return Err(Refusal::CellCount);
     }
     if !keepers_right(plan) {
-        return 22;
+        return Err(Refusal::KeeperNoDesk);
     }
-    0
+    Ok(())
 }
 
-pub fn tray(plan: Plan) -> Tray
-    requires { set_up_refusal plan ≡ 0 }
-    ensures { result ≡ fresh_tray plan }
+pub fn tray(plan: &Plan) -> Tray
+    requires { set_up_refusal plan.now ≡ 0 }
+    ensures { result ≡ fresh_tray plan.now }
 {
     let cells = plan.cells as usize;
     let mut places = [Place::NONE; 32];
-    for c in 0..cells {
-        places[c] = Place {
-            keeper: plan.keepers[c] as u8,
-        };
+    // No `zip` with the places: of an adapter of `iter_mut` the proof knows no values.
+    for (c, k) in plan.keepers[..cells].iter().enumerate() {
+        places[c].keeper = *k as u8;
     }
     Tray {
         counts: Counts {

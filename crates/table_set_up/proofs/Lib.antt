@@ -1,1 +1,1 @@
-mod Refused
+pub mod Cleared

@@ -1,35 +1,31 @@
--- The record is cleared, and with no refusal it is made fresh.
-use Rattle.std.proofs.Common.{◌≡◌, sym, ap, ap₂, ◌∙◌, arith}
-use Rattle.desk.specs.declared.Record.{Record}
+-- With no refusal the record is made fresh.
+use Rattle.std.proofs.Common.{sym, ap, ◌∙◌, arith}
 use Rattle.desk.specs.declared.Started.{Started}
-use Rattle.desk.specs.Start.{start_refusal}
-use Rattle.desk.specs.StartInPlace.{with_tray, with_desk, kept_in, few-cells, start-refused, start-done}
+use Rattle.desk.specs.Start.{fresh_record, not_started, start_refusal, start_rule}
+use Rattle.desk.specs.StartInPlace.{few-cells, start-refused}
 use Rattle.desk.specs.StartLaws.{settled, start-passed}
+use Rattle.theory_refusals.specs.Refusals.{unless-done}
 use Rattle.desk_start.proofs.start.Goals as goal
 
-pub returns-then-code-ne0 : goal.returns-then-code-ne0
-returns-then-code-ne0 c =
-    let told = c.start_refusal-code.ensures in
-    let same = sym (start-refused c.args.plan c.args.desk (λ none. c.if-code-ne0.true (told ∙ none))) in
-    (told ∙ ap (λ (s : Started). s.code) same, c.clear.ensures ∙ ap (λ (s : Started). s.«record») same)
-
 pub tray-requires : goal.tray-requires
-tray-requires c = (start-passed c.args.plan c.args.desk (sym c.start_refusal-code.ensures ∙ c.if-code-ne0.false)).0
+tray-requires c = (start-passed c.args.plan c.args.desk (sym c.in-Ok.ensures)).0
 
 pub overflow_cast-desk : goal.overflow_cast-desk
 overflow_cast-desk c =
-    let passed = start-passed c.args.plan c.args.desk (sym c.start_refusal-code.ensures ∙ c.if-code-ne0.false) in
+    let passed = start-passed c.args.plan c.args.desk (sym c.in-Ok.ensures) in
     record { fits = omega (arith, passed.1, (settled c.args.plan passed.0).desks-most) }
 
-pub keep-requires : goal.keep-requires
-keep-requires c =
-    let passed = start-passed c.args.plan c.args.desk (sym c.start_refusal-code.ensures ∙ c.if-code-ne0.false) in
-    let same = c.put_own_desk.ensures ∙ ap (λ (u : Record). with_desk u c.args.desk) c.put_own_tray.ensures in
-    rw (same, c.tray.ensures) (few-cells c.args.plan passed.0)
+pub fresh-requires : goal.fresh-requires
+fresh-requires c = rw c.tray.ensures (few-cells c.args.plan (start-passed c.args.plan c.args.desk (sym c.in-Ok.ensures)).0)
 
-pub returns : goal.returns
-returns c =
-    let none : start_refusal c.args.plan c.args.desk ≡ 0 = sym c.start_refusal-code.ensures ∙ c.if-code-ne0.false in
-    let same = sym (start-done c.args.plan c.args.desk none) in
-    let made = c.put_own_desk.ensures ∙ ap (λ (u : Record). with_desk u c.args.desk) (c.put_own_tray.ensures ∙ ap₂ with_tray c.clear.ensures c.tray.ensures) in
-    (ap (λ (s : Started). s.code) same, c.keep.ensures ∙ ap kept_in made ∙ ap (λ (s : Started). s.«record») same)
+pub returns-in-Ok : goal.returns-in-Ok
+unfolding start_rule
+returns-in-Ok c =
+    let same = sym (unless-done (start_refusal c.args.plan c.args.desk) not_started _ (sym c.in-Ok.ensures)) in
+    (ap (λ (s : Started). s.code) same, c.fresh.ensures ∙ ap (λ t. fresh_record t c.args.desk) c.tray.ensures ∙ ap (λ (s : Started). s.«record») same)
+
+pub returns-in-Err : goal.returns-in-Err
+returns-in-Err c =
+    let told = c.number.ensures ∙ c.in-Err.ensures in
+    let same = sym (start-refused c.args.plan c.args.desk (λ none. grind arith)) in
+    (told ∙ ap (λ (s : Started). s.code) same, c.clear.ensures ∙ ap (λ (s : Started). s.«record») same)
