@@ -1,23 +1,25 @@
 -- What the desk's steps do where its record lies is what the rules say, for what is not refused.
 -- Assumes nothing.
-use Rattle.std.specs.Prelude.{◌≡◌, Bool, length}
+use Rattle.std.specs.Prelude.{◌≡◌, Bool, ℕ, T, eqb, length}
 use Rattle.std.proofs.Math.Path.{refl}
 use Rattle.std.proofs.Common.{◌∙◌, arith, length-set}
-use Rattle.std.proofs.Math.Bool.{true, false}
+use Rattle.std.proofs.Math.Bool.{true, false, not}
 use Rattle.std.proofs.Math.Logic.{⊎_elim}
-use borrow.Author.Tests.{eq-eqb, ne_eqb, lt-ltb}
+use borrow.Author.Tests.{eqb-true, eqb-false, eq-eqb, ne_eqb, lt-ltb}
+use Rattle.theory_refusals.specs.Refusals.{unless, unless-refused, unless-done}
 use Rattle.desk.specs.declared.Event.{Event}
 use Rattle.desk.specs.declared.Message.{Message}
 use Rattle.desk.specs.declared.Record.{Record}
+use Rattle.desk.specs.declared.Step.{Step}
 use Rattle.desk.specs.Desk.{no_cell, keeps, is_copy}
 use Rattle.desk.specs.Kept.{holds_row, no-cell-rule}
 use Rattle.desk.specs.Parts.{change_of, asked_for, read_reply, write_reply, own_reply}
-use Rattle.desk.specs.Parts.{asked_message, own_answer}
+use Rattle.desk.specs.Parts.{refused_answer, asked_message, own_answer}
 use Rattle.desk.specs.RuleLaws.{Allowed, allowed, Served, served, Brought, brought, own_is}
-use Rattle.desk.specs.Rules.{answer_of}
-use Rattle.desk.specs.Rules.{read_rule, write_rule, drop_rule, event_refusal, event_done}
-use Rattle.desk.specs.Rules.{serve_refusal, read_served, takes, write_served, serve_done}
-use Rattle.desk.specs.Rules.{bring_refusal, brings, bring_done}
+use Rattle.desk.specs.Rules.{answer_of, refused}
+use Rattle.desk.specs.Rules.{read_rule, write_rule, drop_rule, event_refusal, event_done, event_rule}
+use Rattle.desk.specs.Rules.{serve_refusal, read_served, takes, write_served, serve_done, serve_rule}
+use Rattle.desk.specs.Rules.{bring_refusal, brings, bring_done, bring_rule}
 use Rattle.desk.specs.SoundLaws.{RowRule, SoundRule, sound-rule}
 use Rattle.desk.specs.InPlace.{lost-is, loss-is, named_by, kept_here, own_in, answer_in, take_in, take_answer, read_answer, take-is, without, bring_in, bring_answer}
 
@@ -98,3 +100,38 @@ module _ (v : Record) (long : length v.row ≡ 32) (m : Message) (none : bring_r
         loss-is (without v m) bare-long rule.tray-is.cells-most bare-row m.clock,
       )
       (refl, refl)
+
+-- ---- a step by the code that was found for it: it is refused, or it is done
+pub record Turns (v : Record) (code : ℕ) (done rule : Step) : Type 0 where
+  pub refuses : T (not (eqb code 0)) → (refused_answer code ≡ answer_of rule) × (v ≡ rule.after)
+  pub none : T (not (not (eqb code 0))) → code ≡ 0
+  pub does : T (not (not (eqb code 0))) → (answer_of done ≡ answer_of rule) × (done.after ≡ rule.after)
+
+turns : (v : Record) (code : ℕ) (done : Step) → Turns v code done (unless code (refused v) done)
+turns v code done = go (eqb code 0) refl
+  where
+    go : (b : Bool) → eqb code 0 ≡ b → Turns v code done (unless code (refused v) done)
+    go true e =
+        record {
+          refuses = λ h. absurd (rw e at h);
+          none = λ _. eqb-true code 0 e;
+          does = λ _. rw (unless-done code (refused v) done (eqb-true code 0 e)) (refl, refl);
+        }
+    go false e =
+        record {
+          refuses = λ _. rw (unless-refused code (refused v) done (eqb-false code 0 e)) (refl, refl);
+          none = λ h. absurd (rw e at h);
+          does = λ h. absurd (rw e at h);
+        }
+
+pub event-turns : (v : Record) (e : Event) → Turns v (event_refusal v e) (event_done v e) (event_rule v e)
+unfolding event_rule
+event-turns v e = turns v (event_refusal v e) (event_done v e)
+
+pub serve-turns : (v : Record) (m : Message) → Turns v (serve_refusal v m) (serve_done v m) (serve_rule v m)
+unfolding serve_rule
+serve-turns v m = turns v (serve_refusal v m) (serve_done v m)
+
+pub bring-turns : (v : Record) (m : Message) → Turns v (bring_refusal v m) (bring_done v m) (bring_rule v m)
+unfolding bring_rule
+bring-turns v m = turns v (bring_refusal v m) (bring_done v m)
