@@ -2,6 +2,7 @@
 // One desk: its record, what passes between desks, and whether a record is sound. What a desk does stands in the crates above.
 use clock::Clock;
 
+pub mod kinds;
 pub mod sound;
 
 // What a desk has of one cell. A cell that is not held has word 0 and the zero stamp.

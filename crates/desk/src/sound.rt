@@ -3,6 +3,7 @@ ghost use Rattle.std.specs.Prelude.{◌≡◌, ◌<◌};
 ghost use Rattle.desk.specs.Desk.{is_no_word, is_blank, keeps_at, keeps as keeps_def, waits as waits_def};
 ghost use Rattle.desk.specs.Sound.{word_fits, sent_fits, place_sound, tray_sound};
 
+use crate::kinds::Kind;
 use crate::{Counts, Place, Slot, Tray};
 use clock::Clock;
 
@@ -10,7 +11,7 @@ use clock::Clock;
 pub fn waits(s: Slot) -> bool
     ensures { result ≡ waits_def s }
 {
-    s.kind != 0
+    s.kind != Kind::Nothing as u8
 }
 
 #[tactic(auto, unfolding(crate::specs::Desk::is_no_word))]
@@ -41,7 +42,7 @@ pub fn word_fits(word: u32, stamp: Clock) -> bool
 pub fn sent_fits(kind: u8, sent: Clock) -> bool
     ensures { result ≡ sent_fits kind sent }
 {
-    !((kind == 2) & is_blank(sent))
+    !((kind == Kind::WriteAsked as u8) & is_blank(sent))
 }
 
 // Whether the desk keeps cell c, whose place is p.
@@ -76,8 +77,8 @@ pub fn tray_sound(t: Tray) -> bool
 {
     let n = t.counts;
     let mut ok = (1 <= n.desks) & (n.desks <= 8) & ((1 <= n.cells) & (n.cells <= 32));
-    for c in 0..32 {
-        ok = ok & place_sound(n, c, t.places[c]);
+    for (c, p) in t.places.iter().enumerate() {
+        ok &= place_sound(n, c, *p);
     }
     ok
 }

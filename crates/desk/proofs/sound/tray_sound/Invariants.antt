@@ -7,5 +7,5 @@ use Rattle.desk.proofs.sound.tray_sound.Given as goal
 
 abbrev pub invariant-loop-c : goal.invariant-loop-c
 invariant-loop-c l =
-    (counts_sound l.t.counts && every (map_at (place_sound l.t.counts) l.t.places))
-    ≡ (l.ok && every (drop l.c (map_at (place_sound l.t.counts) l.t.places)))
+    (counts_sound l.fn.t.counts && every (map_at (place_sound l.fn.t.counts) l.fn.t.places))
+    ≡ (l.ok && every (drop l.c (map_at (place_sound l.fn.t.counts) l.fn.t.places)))
