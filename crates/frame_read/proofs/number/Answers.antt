@@ -11,4 +11,4 @@ returns-then-c-k c = sym (number_past _ _ _ c.if-c-k.true)
 pub returns : goal.returns
 returns c =
     let a = c.args in
-    c.four_at.ensures ∙ sym (ap numeral (part-take (7 + 4 * a.k) 4 (7 + 4 * a.c) a.s.now (omega arith)))
+    c.at.ensures ∙ sym (ap numeral (part-take (7 + 4 * a.k) 4 (7 + 4 * a.c) a.s.now (omega arith)))
