@@ -34,6 +34,8 @@ use Rattle.std.proofs.Common.{
 }
 use Rattle.theory_lists.specs.Each.{map_at, map_at-same}
 use Rattle.theory_lists.specs.Test.{every}
+use Rattle.clock.specs.declared.Clock.{Clock}
+use Rattle.clock.specs.Clock.{is_within}
 use Rattle.spelling.specs.Bytes.{bytes, spell, put, put_next}
 use Rattle.desk.specs.declared.Message.{Message}
 use Rattle.frame.specs.Frame.{carried, length_of, fault_in, carried_or_zero, well_formed, write_rule, output_rule}
@@ -59,6 +61,11 @@ unfolding map_at every carried_or_zero
 none-carried word ns =
     ap (λ (l : List Bool). eqb word 0 && every l) (map_at-same (λ k. carried_or_zero 0 (suc k)) (carried_or_zero 0) ns 0
     (λ k h. ap (λ (b : Bool). b || eqb (get_or ns k 0) 0) (never k)))
+
+-- what the code tests
+pub carried_within : (n : ℕ) (clock : Clock) → every (map_at (carried_or_zero n) clock.n) ≡ is_within n clock
+unfolding is_within carried_or_zero
+carried_within n clock = refl
 
 -- ---- a fault of the head
 pub faulted : (m : Message) (l : List ℕ) (n : ℕ) → n ≡ fault_in m → (n ≡ 0 → ⊥) → (record { code = n; used = 0 } ≡ write_rule m l) × (l ≡ output_rule m l)

@@ -1,0 +1,10 @@
+use Rattle.std.proofs.Common.{◌≡◌, Err, rules}
+use Rattle.frame.specs.Laws.{some-number}
+use Rattle.frame_write.proofs.Writes.{faulted}
+use Rattle.frame_write.proofs.framed.Goals as goal
+
+pub returns-in_err-fault : goal.returns-in_err-fault
+returns-in_err-fault c =
+    let refusal = c.in_err-fault.field-0.0 in
+    let is : c.from_residual.result ≡ Err refusal = search rules in
+    rw is (faulted c.args.m.now c.args.out.now _ c.in_err-fault.ensures (some-number refusal))
