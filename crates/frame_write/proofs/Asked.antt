@@ -1,6 +1,6 @@
 -- A read asked, which carries no number: what the code tests, and what it comes to.
 -- Assumes nothing.
-use Rattle.std.proofs.Common.{◌≡◌, ℕ, Bool, ◌&&◌, List, ◌∷◌, refl, sym, ap, ◌∙◌, eqb}
+use Rattle.std.proofs.Common.{◌≡◌, ℕ, Bool, ◌&&◌, ◌∷◌, refl, sym, ap, ◌∙◌, eqb}
 use Rattle.theory_lists.specs.Each.{map_at}
 use Rattle.theory_lists.specs.Test.{every}
 use Rattle.clock.specs.declared.Clock.{Clock}

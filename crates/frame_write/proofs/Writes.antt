@@ -108,3 +108,8 @@ module _ (m : Message) (l : List ℕ) (c : ℕ) (e : c ≡ carried m.kind m.desk
     where
       end : 2 + length_of m.kind m.desks ≡ 7 + 4 * c
       end = omega (arith, size.0)
+
+  pub written-sized : (size : ℕ) → size ≡ 5 + 4 * c → clean ≡ true → 7 + 4 * c ≤ length l → (x y : List ℕ)
+      → x ≡ head_of size m.kind m.desks m.desk m.cell ++ drop 7 l → y ≡ put 7 (body_of m c) (4 * c) x
+      → (record { code = 0; used = 2 + size } ≡ write_rule m l) × (y ≡ output_rule m l)
+  written-sized size s t h x y p q = rw s (written t h x y (rw s at p) q)

@@ -22,8 +22,8 @@ joined l n word c d e room =
 pub returns : goal.returns
 returns c =
     let a = c.args in
-    let n = c.args.n in
+    let m = a.m.now in
     let room : 11 ≤ length a.out.now = omega arith in
     c.put_fours.ensures
-    ∙ ap (put 11 (spell (take n (drop 7 widths)) a.m.now.clock.n) (4 * n)) c.put.ensures
-    ∙ joined a.out.now a.m.now.clock.n a.m.now.word (1 + n) n (omega arith) room
+    ∙ ap (put 11 (spell (take _ (drop 7 widths)) m.clock.n) (4 * _)) c.put.ensures
+    ∙ joined a.out.now m.clock.n m.word (1 + a.n) _ (omega arith) room
