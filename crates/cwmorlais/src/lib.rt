@@ -50,10 +50,7 @@ pub fn cwmorlais_frame_read(s: &[u8]) -> Reading
 pub fn cwmorlais_frame_write(m: &Message, out: &mut [u8]) -> Written
     ensures { (result ≡ write_rule m.now out.old) × (out.new ≡ output_rule m.now out.old) }
 {
-    if m.kind == 1 {
-        return frame_write::bare(out, m.clock, m.word, m.desks, m.desk, m.cell);
-    }
-    frame_write::write(out, m.kind, m.desks, m.desk, m.cell, m.word, m.clock)
+    frame_write::write(out, m)
 }
 
 // A fresh table, in place of the one that is lent; a refusal leaves it all zero.

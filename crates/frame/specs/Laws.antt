@@ -8,6 +8,8 @@ use Rattle.theory_lists.specs.Sum.{sum}
 use Rattle.theory_lists.specs.Test.{whichever}
 use Rattle.theory_refusals.specs.Refusals.{first_of, numbers_from, test_of, none-applies, first_some, first_more, first-none}
 use Rattle.theory_refusals.specs.Refusals.{unless-refused, unless-done}
+use Rattle.theory_refusals.specs.declared.Refusal.{Refusal}
+use Rattle.theory_refusals.specs.Numbers.{number_of}
 use Rattle.spelling.specs.Bytes.{numeral, followed, bytes, spell, numbers}
 use Rattle.spelling.specs.Places.{byte-in, part-take, sum-fours}
 use Rattle.desk.specs.declared.Message.{Message}
@@ -60,6 +62,10 @@ length-of kind desks h =
     rw (take-add 6 (carried kind desks) widths) (omega (arith, sum-fours (carried kind desks) 9 (omega (arith, carried-le kind desks))))
 
 -- ---- refusals
+-- a refusal's number is not 0
+pub some-number : (r : Refusal) → number_of r ≡ 0 → ⊥
+some-number r e = grind arith
+
 neither : (a b : Bool) → (a || b) ≡ false → (a ≡ false) × (b ≡ false)
 neither true b e = let z : ◌≡◌ {A = ℕ} 0 1 = cc in absurd (omega arith)
 neither false b e = (refl, e)

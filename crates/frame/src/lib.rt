@@ -1,9 +1,12 @@
 #![tactic(auto)]
 // Frames: one message as one row of bytes, and back. Here is what both ways share; reading and writing stand in the crates above.
-ghost use Rattle.std.specs.Prelude.{◌≡◌, ◌||◌, ltb};
+ghost use Rattle.std.specs.Prelude.{◌≡◌};
+ghost use Rattle.theory_refusals.specs.Numbers.{code_of};
 ghost use Rattle.frame.specs.Frame.{carried, fault_of};
 
 use desk::Message;
+use desk::kinds::Kind;
+use theory_refusals::Refusal;
 
 // What reading gives: code 0, the message and how many bytes its frame has; or a refusal with an all-zero message and 0 used.
 #[repr(C)]
@@ -24,31 +27,22 @@ pub struct Written {
 
 // What reading and writing refuse alike.
 #[tactic(auto, unfolding(crate::specs::Frame::fault_lines, theory_refusals::specs::Refusals::first_of))]
-pub fn fault(kind: u8, desks: u8, desk: u8, cell: u8) -> u32
-    ensures { result ≡ fault_of kind desks desk cell }
+pub fn fault(kind: u8, desks: u8, desk: u8, cell: u8) -> Result<(), Refusal>
+    ensures { code_of result ≡ fault_of kind desks desk cell }
 {
-    if outside(1, 4, kind) {
-        return 32;
+    if !(1..=4).contains(&kind) {
+        return Err(Refusal::FrameKind);
     }
-    if outside(2, 8, desks) {
-        return 33;
+    if !(2..=8).contains(&desks) {
+        return Err(Refusal::FrameDeskCount);
     }
     if desks <= desk {
-        return 34;
+        return Err(Refusal::FrameDesk);
     }
     if 31 < cell {
-        return 35;
+        return Err(Refusal::FrameCell);
     }
-    0
-}
-
-fn outside(low: u8, high: u8, x: u8) -> bool
-    ensures { result ≡ (ltb x low || ltb high x) }
-{
-    if x < low {
-        return true;
-    }
-    high < x
+    Ok(())
 }
 
 // How many a frame carries of the word and the clock's numbers: a read asked has none of them.
@@ -56,7 +50,7 @@ fn outside(low: u8, high: u8, x: u8) -> bool
 pub fn carries(kind: u8, desks: u8) -> usize
     ensures { result ≡ carried kind desks }
 {
-    if kind == 1 {
+    if kind == Kind::ReadAsked as u8 {
         return 0;
     }
     1 + desks as usize

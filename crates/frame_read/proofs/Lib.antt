@@ -1,1 +1,1 @@
-pub mod Versions
+pub mod Told

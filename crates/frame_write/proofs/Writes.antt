@@ -34,6 +34,8 @@ use Rattle.std.proofs.Common.{
 }
 use Rattle.theory_lists.specs.Each.{map_at, map_at-same}
 use Rattle.theory_lists.specs.Test.{every}
+use Rattle.clock.specs.declared.Clock.{Clock}
+use Rattle.clock.specs.Clock.{is_within}
 use Rattle.spelling.specs.Bytes.{bytes, spell, put, put_next}
 use Rattle.desk.specs.declared.Message.{Message}
 use Rattle.frame.specs.Frame.{carried, length_of, fault_in, carried_or_zero, well_formed, write_rule, output_rule}
@@ -59,6 +61,11 @@ unfolding map_at every carried_or_zero
 none-carried word ns =
     ap (λ (l : List Bool). eqb word 0 && every l) (map_at-same (λ k. carried_or_zero 0 (suc k)) (carried_or_zero 0) ns 0
     (λ k h. ap (λ (b : Bool). b || eqb (get_or ns k 0) 0) (never k)))
+
+-- what the code tests
+pub carried_within : (n : ℕ) (clock : Clock) → every (map_at (carried_or_zero n) clock.n) ≡ is_within n clock
+unfolding is_within carried_or_zero
+carried_within n clock = refl
 
 -- ---- a fault of the head
 pub faulted : (m : Message) (l : List ℕ) (n : ℕ) → n ≡ fault_in m → (n ≡ 0 → ⊥) → (record { code = n; used = 0 } ≡ write_rule m l) × (l ≡ output_rule m l)
@@ -101,3 +108,8 @@ module _ (m : Message) (l : List ℕ) (c : ℕ) (e : c ≡ carried m.kind m.desk
     where
       end : 2 + length_of m.kind m.desks ≡ 7 + 4 * c
       end = omega (arith, size.0)
+
+  pub written-sized : (size : ℕ) → size ≡ 5 + 4 * c → clean ≡ true → 7 + 4 * c ≤ length l → (x y : List ℕ)
+      → x ≡ head_of size m.kind m.desks m.desk m.cell ++ drop 7 l → y ≡ put 7 (body_of m c) (4 * c) x
+      → (record { code = 0; used = 2 + size } ≡ write_rule m l) × (y ≡ output_rule m l)
+  written-sized size s t h x y p q = rw s (written t h x y (rw s at p) q)

@@ -2,13 +2,9 @@
 use Rattle.std.proofs.Common.{◌+◌, ◌*◌, sym, ap, ◌∙◌, arith}
 use Rattle.spelling.specs.Bytes.{numeral}
 use Rattle.spelling.specs.Places.{part-take}
-use Rattle.frame.specs.Laws.{number_past}
 use Rattle.frame_read.proofs.number.Goals as goal
-
-pub returns-then-c-k : goal.returns-then-c-k
-returns-then-c-k c = sym (number_past _ _ _ c.if-c-k.true)
 
 pub returns : goal.returns
 returns c =
     let a = c.args in
-    c.four_at.ensures ∙ sym (ap numeral (part-take (7 + 4 * a.k) 4 (7 + 4 * a.c) a.s.now (omega arith)))
+    c.at.ensures ∙ sym (ap numeral (part-take (7 + 4 * a.k) 4 (7 + 4 * a.c) a.s.now (omega arith)))

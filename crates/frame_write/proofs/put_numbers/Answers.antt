@@ -1,7 +1,7 @@
--- None, or the word and after it the clock.
-use Rattle.std.proofs.Common.{◌≡◌, ℕ, suc, List, ◌∷◌, ◌++◌, ◌+◌, ◌-◌, ◌*◌, ◌≤◌, length, take, drop, ap, ap₂, ◌∙◌, append_assoc, arith, length-append}
+-- The word, and after it the clock.
+use Rattle.std.proofs.Common.{◌≡◌, ℕ, suc, List, ◌∷◌, ◌++◌, ◌+◌, ◌*◌, ◌≤◌, length, take, drop, ap, ap₂, ◌∙◌, append_assoc, arith, length-append}
 use Rattle.std.proofs.Math.Seq.{length-take-le}
-use Rattle.spelling.specs.Bytes.{bytes, spell, length-bytes, put, put-none, put_next}
+use Rattle.spelling.specs.Bytes.{bytes, spell, length-bytes, put, put_next}
 use Rattle.frame.specs.Frame.{widths}
 use Rattle.frame_write.proofs.put_numbers.Goals as goal
 
@@ -19,15 +19,11 @@ joined l n word c d e room =
     end : 11 + 4 * d ≡ 7 + 4 * c
     end = omega arith
 
-pub returns-then-c-eq0 : goal.returns-then-c-eq0
-unfolding spell
-returns-then-c-eq0 c = rw c.if-c-eq0.true (put-none _ 7)
-
 pub returns : goal.returns
 returns c =
     let a = c.args in
+    let m = a.m.now in
     let room : 11 ≤ length a.out.now = omega arith in
-    let one_less : suc (a.c - 1) ≡ a.c = omega arith in
     c.put_fours.ensures
-    ∙ ap (put 11 (spell (take (a.c - 1) (drop 7 widths)) a.clock.n) (4 * (a.c - 1))) c.put_four.ensures
-    ∙ joined a.out.now a.clock.n a.word a.c (a.c - 1) one_less room
+    ∙ ap (put 11 (spell (take _ (drop 7 widths)) m.clock.n) (4 * _)) c.put.ensures
+    ∙ joined a.out.now m.clock.n m.word (1 + a.n) _ (omega arith) room

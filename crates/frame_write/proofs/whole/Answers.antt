@@ -1,48 +1,35 @@
 -- The head, the word and a clock number for each desk.
-use Rattle.std.proofs.Common.{◌≡◌, ℕ, ◌+◌, refl, sym, ◌∙◌, arith, ne_eqb}
+use Rattle.std.proofs.Common.{◌≡◌, ℕ, ◌+◌, refl, sym, ◌∙◌, arith, rules, ne_eqb}
+use Rattle.clock.specs.Clock.{is_within}
 use Rattle.frame.specs.Frame.{carried}
 use Rattle.frame.specs.Laws.{faultless}
-use Rattle.frame_write.specs.Given.{given}
-use Rattle.frame_write.proofs.Writes.{past-count, faulted, unclean, roomless, written}
+use Rattle.frame_write.proofs.Writes.{past-count, carried_within, unclean, roomless, written-sized}
 use Rattle.frame_write.proofs.whole.Goals as goal
 
 all : (kind desks : ℕ) → (kind ≡ 1 → ⊥) → 1 + desks ≡ carried kind desks
 unfolding carried
 all kind desks ne = rw (ne_eqb kind 1 ne) refl
 
-pub returns-then-code-ne0 : goal.returns-then-code-ne0
-returns-then-code-ne0 c =
-    let a = c.args in
-    faulted (given a.kind a.desks a.desk a.cell a.word a.clock) a.out.now _ c.fault-code.ensures c.if-code-ne0.true
-
-pub zero_from-requires : goal.zero_from-requires
-zero_from-requires c = (faultless _ _ _ _ (sym c.fault-code.ensures ∙ c.if-code-ne0.false)).desks-to
-
-pub returns-then-not-zero_from : goal.returns-then-not-zero_from
-returns-then-not-zero_from c =
-    let a = c.args in
-    unclean (given a.kind a.desks a.desk a.cell a.word a.clock) a.out.now (1 + a.desks) (all a.kind a.desks c.requires)
-    (sym c.fault-code.ensures ∙ c.if-code-ne0.false)
-    (past-count _ _ _ ∙ sym c.zero_from.ensures ∙ c.if-not-zero_from.true)
+pub returns-then-not-within : goal.returns-then-not-within
+returns-then-not-within c =
+    let m = c.args.m.now in
+    let tested : c.within.result ≡ is_within m.desks m.clock = search rules in
+    unclean m c.args.out.now (1 + m.desks) (all _ _ c.requires.1) c.requires.0
+    (past-count _ _ _ ∙ carried_within _ _ ∙ sym tested ∙ c.if-not-within.true)
 
 pub returns-then-out-c : goal.returns-then-out-c
 returns-then-out-c c =
-    let a = c.args in
-    roomless (given a.kind a.desks a.desk a.cell a.word a.clock) a.out.now (1 + a.desks) (all a.kind a.desks c.requires)
-    (sym c.fault-code.ensures ∙ c.if-code-ne0.false)
-    (past-count _ _ _ ∙ sym c.zero_from.ensures ∙ c.if-not-zero_from.false)
+    let m = c.args.m.now in
+    roomless m c.args.out.now (1 + m.desks) (all _ _ c.requires.1) c.requires.0
+    (past-count _ _ _ ∙ carried_within _ _ ∙ sym c.within.ensures ∙ c.if-not-within.false)
     (omega arith)
 
 pub put_numbers-requires : goal.put_numbers-requires
-put_numbers-requires c =
-    let a = c.args in
-    let most = (faultless _ _ _ _ (sym c.fault-code.ensures ∙ c.if-code-ne0.false)).desks-to in
-    (omega (arith, most), omega arith)
+put_numbers-requires c = ((faultless _ _ _ _ c.requires.0).desks-to, omega arith)
 
 pub returns : goal.returns
 returns c =
-    let a = c.args in
-    written (given a.kind a.desks a.desk a.cell a.word a.clock) a.out.now (1 + a.desks) (all a.kind a.desks c.requires)
-    (sym c.fault-code.ensures ∙ c.if-code-ne0.false)
-    (past-count _ _ _ ∙ sym c.zero_from.ensures ∙ c.if-not-zero_from.false)
+    let m = c.args.m.now in
+    written-sized m c.args.out.now (1 + m.desks) (all _ _ c.requires.1) c.requires.0 _ (omega arith)
+    (past-count _ _ _ ∙ carried_within _ _ ∙ sym c.within.ensures ∙ c.if-not-within.false)
     (omega arith) _ _ c.put_head.ensures c.put_numbers.ensures

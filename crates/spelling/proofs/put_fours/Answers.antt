@@ -23,6 +23,7 @@ use Rattle.std.proofs.Common.{
   rules,
   length-append,
   length-take,
+  get_or-take,
 }
 use Rattle.std.proofs.Math.ListN.{get_or-replicate}
 use Rattle.std.proofs.Math.Seq.{length-take-le}
@@ -69,6 +70,17 @@ loop-k-init c = put-none c.args.out.now c.args.at
 pub loop-k-preserved : goal.loop-k-preserved
 loop-k-preserved c =
     let k = c.loop-k.k in
-    let long : length c.args.ns ≡ 8 = search rules in
-    c.put_four.ensures ∙ ap (put (c.args.at + 4 * k) (bytes 4 (get_or c.args.ns k 0)) 4) c.loop-k.invariant
-    ∙ put-turn c.args.ns c.args.out.now c.args.at k long (omega arith) (omega arith)
+    let ns = c.args.ns in
+    let long : length ns ≡ 8 = search rules in
+    let there : k < 8 = omega (arith, length-take {A = ℕ}) in
+    let room : c.args.at + 4 * k + 4 ≤ length c.args.out.now = omega (arith, length-take {A = ℕ}) in
+    c.put.ensures
+    ∙ ap₂ (λ (x : ℕ) (l : List ℕ). put (c.args.at + 4 * k) (bytes 4 x) 4 l)
+    (get_or-take _ ns k 0 (omega (arith, length-take {A = ℕ})))
+    c.loop-k.invariant
+    ∙ put-turn ns c.args.out.now c.args.at k long there room
+
+pub returns : goal.returns
+returns c =
+    let all : c.loop-k.k ≡ c.args.n = omega (arith, length-take {A = ℕ}) in
+    rw all at c.loop-k.invariant

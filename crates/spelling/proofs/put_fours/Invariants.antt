@@ -4,4 +4,4 @@ use Rattle.spelling.specs.Bytes.{spell, put}
 use Rattle.spelling.proofs.put_fours.Given as goal
 
 abbrev pub invariant-loop-k : goal.invariant-loop-k
-invariant-loop-k l = l.out ≡ put l.at (spell (take l.k (replicate 8 4)) l.ns) (4 * l.k) l.initial.out
+invariant-loop-k l = l.out ≡ put l.at (spell (take l.k (replicate 8 4)) l.fn.ns) (4 * l.k) l.initial.out
