@@ -9,6 +9,7 @@ ghost use Rattle.text.specs.Printing.{ended};
 ghost use Rattle.text_print.specs.Page.{HasRoom, Prints};
 
 // A buffer, and how many bytes of it are printed.
+#[derive(Drop)]
 pub struct Page<'a> {
     out: &'a mut [u8],
     at: usize,
