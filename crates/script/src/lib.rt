@@ -17,6 +17,9 @@ use table::Table;
 use text::read_line;
 use text_print::Page;
 
+// An input above this has only `too long` for an answer.
+const LONGEST: usize = 65536;
+
 // Why an answer ends before its input does.
 #[derive(Clone, Copy)]
 enum Stop {
@@ -41,7 +44,7 @@ fn print(s: &[u8], page: &mut Page)
     ensures prints { Prints (script_answer set_up event s.now) page.old page.new }
     ensures upper_bound { page.new.at ≤ 270400 }
 {
-    if 65536 < s.len() {
+    if LONGEST < s.len() {
         return page.put_too_long();
     }
     match follow(s, page) {
@@ -79,7 +82,8 @@ fn begin(text: &[u8]) -> Result<(Table, &[u8]), Stop>
         cells,
         keepers,
     });
-    if made.code != 0 {
+    let is_refused = made.code != 0;
+    if is_refused {
         return Err(Stop::Refused(made.code));
     }
     Ok((made.table, text))

@@ -1,12 +1,10 @@
 -- Line 1 gives two numbers, line 2 the keepers; then setting up refuses, or gives a table that is sound.
 -- Assumes nothing.
-use Rattle.std.proofs.Common.{◌≡◌, ℕ, List, length, get_or, refl, sym, ap, ◌∙◌, arith, rules, Fits, w32}
+use Rattle.std.proofs.Common.{◌≡◌, ℕ, List, length, get_or, ap, ◌∙◌, arith, rules, Fits, w32}
 use borrow.Author.Tests.{ltb-true, ltb-false}
 use Rattle.desk.specs.declared.Plan.{Plan}
-use Rattle.table.specs.declared.SetUp.{SetUp}
 use Rattle.table.specs.declared.Table.{Table}
 use Rattle.table.specs.Fresh.{set-up-room, set-up-sound}
-use Rattle.table.specs.SetUp.{set_up_rule}
 use Rattle.std.proofs.Math.Option.{some}
 use Rattle.std.proofs.lemmas.Result.{err_from_is_err_and}
 use Rattle.text.specs.Line.{lines_of}
@@ -48,20 +46,19 @@ returns-in_err-keepers c =
     let p = err_from_is_err_and c.from_residual.result c.from_residual.ensures.1 in
     rw (p.1, p.2) (line1 ∙ stop.0 (get_or s 0 0), stop.1)
 
-pub returns-then-made-ne0 : goal.returns-then-made-ne0
+pub returns-then-is_refused : goal.returns-then-is_refused
 unfolding said
-returns-then-made-ne0 c =
+returns-then-is_refused c =
     let s = c.as_slice.result.now in
     let line1 = sized-first c.args.text.now c.in-Some.counts s c.in-Some.text.now c.in-Some.ensures c.as_slice.ensures (omega arith) in
     let m = c.made-made.result in
     let rest = c.in_ok-keepers.text.now in
     let set = made-is (get_or s 0 0) (get_or s 1 0) c.in_ok-keepers.keepers m c.made-made.ensures in
-    let code : Fits w32 m.code = search rules in
-    (
+    let code : Fits w32 m.code = search rules in (
       line1
-      ∙ c.in_ok-keepers.ensures.0 (get_or s 0 0)
-      ∙ ap (λ (x : ℕ × Table). started set_up event x (lines_of rest)) set
-      ∙ started-refused set_up event rest m.code m.table c.if-made-ne0.true,
+          ∙ c.in_ok-keepers.ensures.0 (get_or s 0 0)
+          ∙ ap (λ (x : ℕ × Table). started set_up event x (lines_of rest)) set
+          ∙ started-refused set_up event rest m.code m.table c.if-is_refused.true,
       short-refused m.code (omega arith),
     )
 
@@ -74,13 +71,12 @@ returns c =
     let keepers = c.in_ok-keepers.keepers in
     let plan : Plan = record { desks = get_or s 0 0; cells = get_or s 1 0; keepers = keepers } in
     let set = made-is (get_or s 0 0) (get_or s 1 0) keepers m c.made-made.ensures in
-    let after = (line-known c.args.text.now c.in-Some.counts c.in-Some.text.now c.in-Some.ensures).after in
-    (
+    let after = (line-known c.args.text.now c.in-Some.counts c.in-Some.text.now c.in-Some.ensures).after in (
       line1
-      ∙ c.in_ok-keepers.ensures.0 (get_or s 0 0)
-      ∙ ap (λ (x : ℕ × Table). started set_up event x (lines_of rest)) set
-      ∙ started-run set_up event rest m.code m.table c.if-made-ne0.false,
-      rw c.made-made.ensures (set-up-sound plan c.in_ok-keepers.ensures.1 (rw (← c.made-made.ensures) c.if-made-ne0.false)),
+          ∙ c.in_ok-keepers.ensures.0 (get_or s 0 0)
+          ∙ ap (λ (x : ℕ × Table). started set_up event x (lines_of rest)) set
+          ∙ started-run set_up event rest m.code m.table c.if-is_refused.false,
+      rw c.made-made.ensures (set-up-sound plan c.in_ok-keepers.ensures.1 (rw (← c.made-made.ensures) c.if-is_refused.false)),
       rw c.made-made.ensures (set-up-room plan c.in_ok-keepers.ensures.1),
       omega (arith, after, c.in_ok-keepers.ensures.2),
     )

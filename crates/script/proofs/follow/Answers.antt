@@ -1,6 +1,6 @@
 -- Either nothing is printed before the end, or what `run` leaves.
 -- Assumes nothing.
-use Rattle.std.proofs.Common.{[], refl, arith}
+use Rattle.std.proofs.Common.{[], arith}
 use Rattle.std.proofs.lemmas.Result.{err_from_is_err_and}
 use Rattle.text_print.specs.Page.{prints_none}
 use Rattle.script.specs.Stops.{ending}

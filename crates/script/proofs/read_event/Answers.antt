@@ -1,6 +1,6 @@
 -- No line, another count, or four numbers.
 -- Assumes nothing.
-use Rattle.std.proofs.Common.{◌≡◌, length, refl, sym, ap, ◌∙◌, arith}
+use Rattle.std.proofs.Common.{◌≡◌, length, refl, ap, arith}
 use borrow.Author.Tests.{ltb-true, ltb-false}
 use Rattle.text.specs.Lines.{line-unknown, line_other}
 use Rattle.script.specs.Rules.{event_of}

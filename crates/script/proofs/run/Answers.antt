@@ -1,5 +1,5 @@
 -- Assumes nothing.
-use Rattle.std.proofs.Common.{◌≡◌, ◌+◌, ◌≤◌, ℕ, suc, List, [], ◌∷◌, ◌++◌, length, refl, sym, ap, ◌∙◌, Fits, w32, rules, arith, add-one, append_assoc, append-nil}
+use Rattle.std.proofs.Common.{◌≡◌, ◌≤◌, ℕ, suc, List, [], ◌∷◌, ◌++◌, length, refl, sym, ap, ◌∙◌, Fits, w32, rules, arith, add-one, append_assoc}
 use Rattle.text.specs.Line.{line_of}
 use Rattle.text.specs.OneLine.{length-line}
 use Rattle.text.specs.Lines.{line-known}
