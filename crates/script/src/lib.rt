@@ -7,10 +7,10 @@ ghost use Rattle.table.specs.Sound.{table_sound};
 ghost use Rattle.text.specs.Line.{lines_of};
 ghost use Rattle.text.specs.Printing.{Put};
 ghost use Rattle.text.specs.Reading.{line_read};
-ghost use Rattle.text.specs.Script.{first, having, run as script_run, started, sized, begun, answer as script_answer};
+ghost use Rattle.text.specs.Script.{first, having, run as script_run, sized, begun, answer as script_answer};
 ghost use Rattle.text_print.specs.Page.{Prints};
 ghost use Rattle.script.specs.Rules.{event_of, set_up, event};
-ghost use Rattle.script.specs.Stops.{said, ending, Blank, Leaves};
+ghost use Rattle.script.specs.Stops.{ending, EndsIn, Ready, Kept, Blank, Leaves};
 
 use desk::{Event, Plan};
 use table::Table;
@@ -66,9 +66,7 @@ fn follow(text: &[u8], page: &mut Page) -> Result<(), Stop>
 
 // The table that lines 1 and 2 set up, and the text behind them.
 fn begin(text: &[u8]) -> Result<(Table, &[u8]), Stop>
-    ensures { MatchResult result
-        (λ r. (begun set_up event (lines_of text.now) ≡ script_run set_up event r.0 3 (lines_of r.1.now)) × (table_sound r.0 ≡ true) × Room r.0 × (length r.1.now ≤ length text.now))
-        (λ stop. (begun set_up event (lines_of text.now) ≡ said stop) × (length (said stop) ≤ 33)) }
+    ensures { MatchResult result (λ r. Ready (begun set_up event (lines_of text.now)) text.now r.0 r.1.now) (EndsIn (begun set_up event (lines_of text.now))) }
 {
     let Some((counts, text)) = read_line(text) else {
         return Err(Stop::BadLine(1));
@@ -91,9 +89,8 @@ fn begin(text: &[u8]) -> Result<(Table, &[u8]), Stop>
 
 // The keepers that line 2 gives, and the text behind it. It is not looked at if the cells are none or too many.
 fn read_keepers(cells: u32, text: &[u8]) -> Result<([u32; 32], &[u8]), Stop>
-    ensures { MatchResult result
-        (λ r. ((desks : ℕ) → sized set_up event desks cells (lines_of text.now) ≡ started set_up event (set_up desks cells r.0) (lines_of r.1.now)) × (length r.0 ≡ 32) × (length r.1.now ≤ length text.now))
-        (λ stop. ((desks : ℕ) → sized set_up event desks cells (lines_of text.now) ≡ said stop) × (length (said stop) ≤ 33)) }
+    ensures { MatchResult result (λ r. Kept cells text.now r.0 r.1.now)
+        (λ stop. (desks : ℕ) → EndsIn (sized set_up event desks cells (lines_of text.now)) stop) }
 {
     let mut keepers = [0; 32];
     if !(0 < cells && cells <= 32) {
@@ -119,6 +116,7 @@ fn run(fresh: Table, text: &[u8], page: &mut Page) -> Result<(), Stop>
 {
     let mut table = fresh;
     let mut rest = text;
+    // the number of the line at the front of rest, which no slice or iterator carries
     let mut n: u32 = 3;
     while !rest.is_empty() {
         let (e, behind) = read_event(rest, n)?;

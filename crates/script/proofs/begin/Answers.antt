@@ -44,7 +44,7 @@ returns-in_err-keepers c =
     let line1 = sized-first c.args.text.now c.in-Some.counts s c.in-Some.text.now c.in-Some.ensures c.as_slice.ensures (omega arith) in
     let stop = c.in_err-keepers.ensures in
     let p = err_from_is_err_and c.from_residual.result c.from_residual.ensures.1 in
-    rw (p.1, p.2) (line1 ∙ stop.0 (get_or s 0 0), stop.1)
+    rw (p.1, p.2) (line1 ∙ (stop (get_or s 0 0)).0, (stop (get_or s 0 0)).1)
 
 pub returns-then-is_refused : goal.returns-then-is_refused
 unfolding said

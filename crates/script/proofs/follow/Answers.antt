@@ -13,6 +13,3 @@ returns-in_err-table c =
     let p = err_from_is_err_and c.from_residual.result c.from_residual.ensures.1 in
     rw (p.1, p.2)
     (record { done = []; prints = prints_none c.args.page.now; answers = stop.0; room = omega (arith, c.requires.blank.empty, stop.1) })
-
-pub returns : goal.returns
-returns c = rw c.in_ok-table.ensures.0 c.run.ensures

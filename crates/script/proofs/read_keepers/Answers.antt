@@ -25,8 +25,8 @@ pub returns-in_default : goal.returns-in_default
 unfolding said
 returns-in_default c =
     let text = c.args.text.now in
-    let cells = c.args.cells in (
-      λ desks. second-bad set_up event text desks cells (omega arith) (omega arith) (line-unknown text cells (omega arith) c.in_default.ensures),
+    let cells = c.args.cells in λ desks. (
+      second-bad set_up event text desks cells (omega arith) (omega arith) (line-unknown text cells (omega arith) c.in_default.ensures),
       short-bad 2 (omega arith),
     )
 
@@ -35,8 +35,8 @@ unfolding said
 returns-then-numbers-cells c =
     let text = c.args.text.now in
     let cells = c.args.cells in
-    let another : length c.in-Some.numbers ≡ cells → ⊥ = λ e. c.if-numbers-cells.true (ap length c.as_slice-numbers.ensures ∙ e) in (
-      λ desks. second-bad set_up event text desks cells (omega arith) (omega arith) (line_other text c.in-Some.ensures cells another),
+    let another : length c.in-Some.numbers ≡ cells → ⊥ = λ e. c.if-numbers-cells.true (ap length c.as_slice-numbers.ensures ∙ e) in λ desks. (
+      second-bad set_up event text desks cells (omega arith) (omega arith) (line_other text c.in-Some.ensures cells another),
       short-bad 2 (omega arith),
     )
 

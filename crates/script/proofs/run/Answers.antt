@@ -47,9 +47,6 @@ returns-in_err-e c =
       room = omega (arith, i.room, short);
     })
 
-pub next-done-requires : goal.next-done-requires
-next-done-requires c = c.loop-rest.invariant.sound
-
 -- the three numbers are of 32 bits, so their line is short
 short : (x : Reply) → Fits w32 x.code → Fits w32 x.value → Fits w32 x.count → length (line_of (x.code ∷ x.value ∷ x.count ∷ [])) ≤ 33
 short x code value count = length-line x.code (x.value ∷ x.count ∷ []) (omega arith, (omega arith, (omega arith, tt)))
