@@ -18,6 +18,7 @@ enum Failure {
     Output(io::Error),
 }
 
+// By hand, since an Err of main is printed by `Debug`, and `run` shows this text as it stands.
 impl Debug for Failure {
     fn fmt<W: fmt::Write>(&self, f: &mut Formatter<W>) -> fmt::Result {
         match self {

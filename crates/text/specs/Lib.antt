@@ -2,13 +2,13 @@ pub mod Corners
 pub mod Cut
 pub mod Digits
 pub mod Line
+pub mod Lines
 pub mod Number
+pub mod OneLine
 pub mod OneText
 pub mod Printing
 pub mod Reading
+pub mod Row
 pub mod Script
 pub mod Value
-pub mod Row
-pub mod OneLine
-pub mod Lines
 pub mod Walk

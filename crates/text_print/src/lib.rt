@@ -1,7 +1,6 @@
 #![tactic(auto)]
 // Replies, and the words that the script ends with, are printed on a page. Each method asks that the text fits: the script's page has room for
-// all that an input can answer, so a refusal would never be seen. std's `Display` and `write!` answer a Result, and promise nothing of an Err:
-// a page that cannot fail cannot be built on them.
+// all that an input can answer, so a refusal would never be seen.
 ghost use Rattle.std.specs.Prelude.{◌≡◌, ◌∷◌, []};
 ghost use Rattle.text.specs.Number.{decimal};
 ghost use Rattle.text.specs.Line.{line_of, bad_line, too_long};
@@ -69,7 +68,8 @@ impl<'a> Page<'a> {
         self.put_byte(end);
     }
 
-    // The digits of the tenth where that is not 0, and the last digit.
+    // The digits of the tenth where that is not 0, and the last digit. By hand: std's `write!` answers a Result and promises nothing of an Err,
+    // and here nothing fails.
     #[tactic(auto, using(crate::proofs::Digits::digits))]
     fn put_number(&mut self, n: u32)
         requires { HasRoom (decimal n) self.old }
