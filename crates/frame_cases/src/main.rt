@@ -2,13 +2,14 @@
 // Runs frame vectors. Each line of input is a case, and is written again with what reading or writing gives; `-` stands for no bytes.
 //     R <hex input>                                          and then code, used, kind, desks, desk, cell, word, eight clock numbers
 //     W <kind desks desk cell word, eight clock numbers, room>  and then code, used, hex of the output, each byte of which was EE before
-ghost use Rattle.std.specs.Prelude.{◌<◌, ◌≤◌, length, IfOk, IfSome};
+ghost use Rattle.std.specs.Prelude.{◌<◌, IfSome};
 
 use clock::Clock;
 use desk::Message;
 use std::fmt::Display;
-use std::io::{Read, Write};
+use std::io::Write;
 use std::{array, io};
+use whole_input::read_all;
 
 // A case as far as its line has been read.
 #[derive(Clone, Copy)]
@@ -28,23 +29,8 @@ enum Asks {
 
 fn main(rt: HostRuntime) -> io::Result<()> {
     let mut text = [0u8; 262144];
-    let n = read_full(&mut rt.stdin(), &mut text)?;
+    let n = read_all(&mut rt.stdin(), &mut text)?;
     run(&text[..n], &mut rt.stdout())
-}
-
-// Reads until the input ends or buf is full.
-fn read_full<R: Read>(from: &mut R, buf: &mut [u8]) -> io::Result<usize>
-    ensures { IfOk result (λ n. n ≤ length buf.old) }
-{
-    let mut done = 0;
-    while done < buf.len() {
-        let more = from.read(&mut buf[done..])?;
-        if more == 0 {
-            return Ok(done);
-        }
-        done += more;
-    }
-    Ok(done)
 }
 
 fn run<W: Write>(text: &[u8], out: &mut W) -> io::Result<()> {

@@ -1,17 +1,31 @@
 #![tactic(auto)]
 // What the script program answers, as a function from an input slice to an output slice.
-ghost use Rattle.std.specs.Prelude.{true, ◌∷◌, [], ◌≡◌, ◌+◌, ◌≤◌, ◌<◌, length, drop};
+ghost use Rattle.std.specs.Prelude.{true, ◌∷◌, [], ◌≡◌, ◌+◌, ◌≤◌, ℕ, List, length, MatchResult};
+ghost use Rattle.std.proofs.Math.Option.{none, some};
 ghost use Rattle.table.specs.Room.{Room};
 ghost use Rattle.table.specs.Sound.{table_sound};
-ghost use Rattle.text.specs.Line.{lines_of, line_of};
+ghost use Rattle.text.specs.Line.{lines_of};
 ghost use Rattle.text.specs.Printing.{Put};
-ghost use Rattle.text.specs.Script.{run as script_run, sized, answer as script_answer};
-ghost use Rattle.script.specs.Rules.{set_up, event};
+ghost use Rattle.text.specs.Reading.{line_read};
+ghost use Rattle.text.specs.Script.{first, having, run as script_run, sized, begun, answer as script_answer};
+ghost use Rattle.text_print.specs.Page.{Prints};
+ghost use Rattle.script.specs.Rules.{event_of, set_up, event};
+ghost use Rattle.script.specs.Stops.{ending, EndsIn, Ready, Kept, Blank, Leaves};
 
-use desk::{Event, Plan, Reply};
+use desk::{Event, Plan};
 use table::Table;
 use text::read_line;
-use text_print::{put_bad_line, put_reply, put_single, put_too_long};
+use text_print::Page;
+
+// An input above this has only `too long` for an answer.
+const LONGEST: usize = 65536;
+
+// Why an answer ends before its input does.
+#[derive(Clone, Copy)]
+enum Stop {
+    BadLine(u32),
+    Refused(u32),
+}
 
 // Puts what the whole input must answer at the start of out, and says how many bytes it has. The room is enough for any input: a reply of
 // at most 33 bytes to each event of at least 8, in 65,536 bytes, and a last line.
@@ -19,100 +33,120 @@ pub fn answer(s: &[u8], out: &mut [u8; 270400]) -> usize
     ensures put { Put (script_answer set_up event s.now) out.old 0 out.new result }
     ensures upper_bound { result ≤ 270400 }
 {
-    if 65536 < s.len() {
-        return put_too_long(out, 0);
-    }
-    let one = read_line(s, 0);
-    if one.count != 2 {
-        return put_bad_line(1, out, 0);
-    }
-    begin(one.n[0], one.n[1], s, one.next, out)
+    let mut page = Page::new(out);
+    print(s, &mut page);
+    page.len()
 }
 
-// The answer after line 1. Line 2 is not looked at if the cells are none or too many.
-fn begin(desks: u32, cells: u32, s: &[u8], at: usize, out: &mut [u8]) -> usize
-    requires s_len_bound { length s.now ≤ 65536 }
-    requires in_bounds { 270400 ≤ length out.old }
-    ensures put { Put (sized set_up event desks cells (lines_of (drop at s.now))) out.old 0 out.new result }
-    ensures upper_bound { result ≤ 270400 }
+// Prints what the whole input must answer.
+fn print(s: &[u8], page: &mut Page)
+    requires { Blank page.old }
+    ensures prints { Prints (script_answer set_up event s.now) page.old page.new }
+    ensures upper_bound { page.new.at ≤ 270400 }
 {
-    if (0 < cells) & (cells <= 32) {
-        return second(desks, cells, s, at, out);
+    if LONGEST < s.len() {
+        return page.put_too_long();
     }
-    let made = table_set_up::made(Plan {
-        desks,
-        cells,
-        keepers: [0; 32],
-    });
-    put_single(made.code, out, 0)
+    match follow(s, page) {
+        Ok(()) => {}
+        Err(Stop::BadLine(n)) => page.put_bad_line(n),
+        Err(Stop::Refused(code)) => page.put_line(&[code]),
+    }
 }
 
-// The answer from line 2 on.
-fn second(desks: u32, cells: u32, s: &[u8], at: usize, out: &mut [u8]) -> usize
-    requires cells_nonzero { (0 < cells) × (cells ≤ 32) }
-    requires s_len_bound { length s.now ≤ 65536 }
-    requires in_bounds { 270400 ≤ length out.old }
-    ensures put { Put (sized set_up event desks cells (lines_of (drop at s.now))) out.old 0 out.new result }
-    ensures upper_bound { result ≤ 270400 }
+// Prints the replies.
+fn follow(text: &[u8], page: &mut Page) -> Result<(), Stop>
+    requires blank { Blank page.old }
+    requires few { length text.now ≤ 65536 }
+    ensures { Leaves (begun set_up event (lines_of text.now)) page.old page.new (ending result) }
 {
-    let two = read_line(s, at);
-    if two.count != cells as usize {
-        return put_bad_line(2, out, 0);
-    }
-    let keepers = two.n;
+    let (table, rest) = begin(text)?;
+    run(table, rest, page)
+}
+
+// The table that lines 1 and 2 set up, and the text behind them.
+fn begin(text: &[u8]) -> Result<(Table, &[u8]), Stop>
+    ensures { MatchResult result (λ r. Ready (begun set_up event (lines_of text.now)) text.now r.0 r.1.now) (EndsIn (begun set_up event (lines_of text.now))) }
+{
+    let Some((counts, text)) = read_line(text) else {
+        return Err(Stop::BadLine(1));
+    };
+    let [desks, cells] = *counts.as_slice() else {
+        return Err(Stop::BadLine(1));
+    };
+    let (keepers, text) = read_keepers(cells, text)?;
     let made = table_set_up::made(Plan {
         desks,
         cells,
         keepers,
     });
-    let code = made.code;
-    if code != 0 {
-        return put_single(code, out, 0);
+    let is_refused = made.code != 0;
+    if is_refused {
+        return Err(Stop::Refused(made.code));
     }
-    run(made.table, s, two.next, out)
+    Ok((made.table, text))
 }
 
-// The answer to the events. A fresh table is sound and every event keeps it so: none is tested.
-fn run(t: Table, s: &[u8], start: usize, out: &mut [u8]) -> usize
-    requires t_value { (table_sound t ≡ true) × Room t }
-    requires s_len_bound { length s.now ≤ 65536 }
-    requires in_bounds { 270400 ≤ length out.old }
-    ensures put { Put (script_run set_up event t 3 (lines_of (drop start s.now))) out.old 0 out.new result }
-    ensures upper_bound { result ≤ 270400 }
+// The keepers that line 2 gives, and the text behind it. It is not looked at if the cells are none or too many.
+fn read_keepers(cells: u32, text: &[u8]) -> Result<([u32; 32], &[u8]), Stop>
+    ensures { MatchResult result (λ r. Kept cells text.now r.0 r.1.now)
+        (λ stop. (desks : ℕ) → EndsIn (sized set_up event desks cells (lines_of text.now)) stop) }
 {
-    let mut table = t;
-    let mut at = start;
+    let mut keepers = [0; 32];
+    if !(0 < cells && cells <= 32) {
+        return Ok((keepers, text));
+    }
+    let Some((numbers, rest)) = read_line(text) else {
+        return Err(Stop::BadLine(2));
+    };
+    let numbers = numbers.as_slice();
+    if numbers.len() != cells as usize {
+        return Err(Stop::BadLine(2));
+    }
+    keepers[..numbers.len()].copy_from_slice(numbers);
+    Ok((keepers, rest))
+}
+
+// Prints the replies to the events. A fresh table is sound and every event keeps it so: none is tested.
+fn run(fresh: Table, text: &[u8], page: &mut Page) -> Result<(), Stop>
+    requires table { (table_sound fresh ≡ true) × Room fresh }
+    requires blank { Blank page.old }
+    requires few { length text.now ≤ 65536 }
+    ensures { Leaves (script_run set_up event fresh 3 (lines_of text.now)) page.old page.new (ending result) }
+{
+    let mut table = fresh;
+    let mut rest = text;
+    // the number of the line at the front of rest, which no slice or iterator carries
     let mut n: u32 = 3;
-    let mut o = 0;
-    while at < s.len() {
-        let l = read_line(s, at);
-        if l.count != 4 {
-            return put_bad_line(n, out, o);
-        }
-        let kind = l.n[0];
-        let desk = l.n[1];
-        let cell = l.n[2];
-        let word = l.n[3];
-        let e = Event {
-            kind,
-            desk,
-            cell,
-            word,
-        };
+    while !rest.is_empty() {
+        let (e, behind) = read_event(rest, n)?;
         let done = table_next::next(table, e);
         table = done.after;
         let reply = done.reply;
-        o = put_line(reply, out, o);
-        at = l.next;
+        page.put_line(&[reply.code, reply.value, reply.count]);
+        rest = behind;
         n += 1;
     }
-    o
+    Ok(())
 }
 
-// A reply's line, of at most 33 bytes: three numbers of at most ten digits, two spaces and LF.
-fn put_line(x: Reply, out: &mut [u8], at: usize) -> usize
-    requires { at + 33 ≤ length out.old }
-    ensures { Put (line_of (x.code ∷ x.value ∷ x.count ∷ [])) out.old at out.new result × (result ≤ at + 33) }
+// The event that line n gives, and the text behind it.
+fn read_event(text: &[u8], n: u32) -> Result<(Event, &[u8]), Stop>
+    ensures { MatchResult result
+        (λ r. (ns : List ℕ) × (line_read text.now ≡ some (ns, r.1.now)) × (length ns ≡ 4) × (r.0 ≡ event_of ns))
+        (λ stop. (having 4 (first (lines_of text.now)) ≡ none) × (stop ≡ Stop.BadLine n)) }
 {
-    put_reply(x.code, x.value, x.count, out, at)
+    let Some((numbers, rest)) = read_line(text) else {
+        return Err(Stop::BadLine(n));
+    };
+    let [kind, desk, cell, word] = *numbers.as_slice() else {
+        return Err(Stop::BadLine(n));
+    };
+    let e = Event {
+        kind,
+        desk,
+        cell,
+        word,
+    };
+    Ok((e, rest))
 }

@@ -1,14 +1,15 @@
 #![tactic(auto)]
 // The script program: reads standard input to its end, and writes what `script::answer` says of it. What standard input gives and standard
 // output takes no contract can say, so all else is in `respond`, for any reader and any writer.
-ghost use Rattle.std.specs.Prelude.{◌≤◌, ◌<◌, length, take, IfOk, OnOk, IfSome};
-ghost use Rattle.std.specs.Io.KnownBytes.{Appends, Consumes, IsAtEnd};
+ghost use Rattle.std.specs.Prelude.{OnOk, IfSome};
+ghost use Rattle.std.specs.Io.KnownBytes.{Appends};
 ghost use Rattle.text.specs.Script.{answer as script_answer};
 ghost use Rattle.script.specs.Rules.{set_up, event};
 
 use std::fmt::{Debug, Formatter};
 use std::io::{Read, Write};
 use std::{fmt, io};
+use whole_input::read_all;
 
 // Which of the two failed.
 #[derive(Drop)]
@@ -17,6 +18,7 @@ enum Failure {
     Output(io::Error),
 }
 
+// By hand, since an Err of main is printed by `Debug`, and `run` shows this text as it stands.
 impl Debug for Failure {
     fn fmt<W: fmt::Write>(&self, f: &mut Formatter<W>) -> fmt::Result {
         match self {
@@ -41,21 +43,4 @@ fn respond<R: Read, W: Write>(from: &mut R, to: &mut W) -> Result<(), Failure>
     let mut out = [0u8; 270400];
     let n = script::answer(&space[..count], &mut out);
     to.write_all(&out[..n]).map_err(Failure::Output)
-}
-
-// Reads until the input ends or buf is full.
-fn read_all<R: Read>(from: &mut R, buf: &mut [u8]) -> io::Result<usize>
-    ensures upper_bound { IfOk result (λ n. n ≤ length buf.old) }
-    ensures bytes { IfOk result (λ n. Consumes (R.remaining from.old) (R.remaining from.new) (take n buf.new)) }
-    ensures whole { IfOk result (λ n. n < length buf.old → IsAtEnd (R.remaining from.new)) }
-{
-    let mut done = 0;
-    while done < buf.len() {
-        let more = from.read(&mut buf[done..])?;
-        if more == 0 {
-            return Ok(done);
-        }
-        done += more;
-    }
-    Ok(done)
 }

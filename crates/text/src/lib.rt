@@ -1,157 +1,131 @@
 #![tactic(auto)]
-// The script's text is read: lines of decimal numbers, one space between, each ended by LF. What is printed stands in `printing`.
-ghost use Rattle.std.specs.Prelude.{◌≡◌, ◌+◌, ◌≤◌, length, drop};
-ghost use Rattle.text.specs.Number.{starts_well, number_of};
-ghost use Rattle.text.specs.Line.{before, line_numbers};
-ghost use Rattle.text.specs.Reading.{past, grown_by, capped, within, as_number, as_numbers, line_at};
+// The script's text is read: lines of decimal numbers, one space between, each ended by LF. What is printed stands in `text_print`.
+ghost use Rattle.std.specs.Prelude.{◌≡◌, ◌==◌, ◌+◌, ◌-◌, ◌*◌, ◌≤◌, ℕ, List, [], ◌∷◌, ◌++◌, length, take, MatchOption, SomeIff, position};
+ghost use Rattle.std.proofs.Math.Option.{none, some};
+ghost use Rattle.text.specs.Number.{given, largest, is_digit, starts_well, number_of};
+ghost use Rattle.text.specs.Line.{line_numbers};
+ghost use Rattle.text.specs.Reading.{as_option, few, line_read};
 
-// One past the largest number. It stands for whatever is no number.
-const PAST: u64 = 4294967296;
+use std::marker::Model;
 
-#[derive(Clone, Copy)]
-enum Number {
-    Is(u32),
-    No,
-}
+// A line has no more numbers than this: they need no heap.
+const MOST: usize = 32;
 
-// The numbers of a line, and zeros after them. A line that is malformed or has more than 32 numbers has count 0.
-#[derive(Clone, Copy)]
-struct Numbers {
+// The numbers of a line.
+#[derive(Drop)]
+pub struct Numbers {
+    n: [u32; MOST],
     count: usize,
-    n: [u32; 32],
 }
 
-// The same, with the place where the next line starts. Where no LF ends the line, all is 0.
-#[derive(Clone, Copy)]
-pub struct Line {
-    pub count: usize,
-    pub n: [u32; 32],
-    pub next: usize,
+// Clauses see the numbers that stand there.
+impl Model for Numbers {
+    ghost Value = { List ℕ };
+
+    ghost view = { λ s. take s.count s.n };
+
+    ghost invariant = { λ s. s.count ≤ 32 };
 }
 
-const NO_NUMBERS: Numbers = Numbers {
-    count: 0,
-    n: [0; 32],
-};
+impl Numbers {
+    fn new() -> Numbers
+        ensures { result ≡ [] }
+    {
+        Numbers {
+            n: [0; MOST],
+            count: 0,
+        }
+    }
 
-const NO_LINE: Line = Line {
-    count: 0,
-    n: [0; 32],
-    next: 0,
-};
+    // One number more, if there is room.
+    fn push(&mut self, n: u32) -> Option<()>
+        ensures { MatchOption result (32 ≤ length self.old) (λ _. (self.new ≡ self.old ++ n ∷ []) × (length self.new ≤ 32)) }
+    {
+        if self.count == MOST {
+            return None;
+        }
+        self.n[self.count] = n;
+        self.count += 1;
+        Some(())
+    }
 
-// The line that starts at `at`.
-pub fn read_line(s: &[u8], at: usize) -> Line
-    ensures { result ≡ line_at s.now at }
+    pub fn as_slice(&self) -> &[u32]
+        ensures { result.now ≡ self.now }
+    {
+        &self.n[..self.count]
+    }
+}
+
+// The numbers of the text's first line, and the text behind it.
+pub fn read_line(text: &[u8]) -> Option<(Numbers, &[u8])>
+    ensures { MatchOption result (line_read text.now ≡ none) (λ l. line_read text.now ≡ some (l.0, l.1.now)) }
 {
-    let end = find(s, at, b'\n');
-    if s.len() <= end {
-        return NO_LINE;
-    }
-    let all = read_numbers(&s[at..end]);
-    let n = all.n;
-    Line {
-        count: all.count,
-        n: n,
-        next: end + 1,
-    }
+    let end = find(text, b'\n')?;
+    let numbers = read_numbers(&text[..end])?;
+    Some((numbers, &text[end + 1..]))
+}
+
+// The first place that has b.
+fn find(s: &[u8], b: u8) -> Option<usize>
+    ensures { result ≡ position (λ x. x == b) s.now }
+{
+    s.iter().position(|x| *x == b)
 }
 
 // The numbers of a whole line, given without its LF.
-fn read_numbers(l: &[u8]) -> Numbers
-    ensures { result ≡ as_numbers (line_numbers l.now) }
+fn read_numbers(line: &[u8]) -> Option<Numbers>
+    ensures { result ≡ as_option (few (line_numbers line.now)) }
 {
-    if 400 < l.len() {
-        return NO_NUMBERS;
+    if 400 < line.len() {
+        return None;
     }
-    let mut n = [0u32; 32];
-    let mut from = 0;
-    for k in 0..32 {
-        let end = find(l, from, b' ');
-        let found = read_number(&l[from..end]);
-        let Number::Is(v) = found else {
-            return NO_NUMBERS;
-        };
-        n[k] = v;
-        if l.len() <= end {
-            return Numbers { count: k + 1, n: n };
-        }
-        from = end + 1;
+    let mut numbers = Numbers::new();
+    for word in line.split(|b| *b == b' ') {
+        numbers.push(read_number(word)?)?;
     }
-    NO_NUMBERS
+    Some(numbers)
 }
 
-// The first place from `at` on that has b; the end where there is none.
-fn find(s: &[u8], at: usize, b: u8) -> usize
-    ensures { result ≡ at + length (before b (drop at s.now)) }
+// The number that the bytes are.
+fn read_number(word: &[u8]) -> Option<u32>
+    ensures { result ≡ as_option (number_of word.now) }
 {
-    let mut i = at;
-    while i < s.len() {
-        if s[i] == b {
-            return i;
-        }
-        i += 1;
+    if !starts_well(word) {
+        return None;
     }
-    i
+    let mut value: u32 = 0;
+    for b in word {
+        let last = digit(*b)?;
+        value = grown(value, last)?;
+    }
+    Some(value)
 }
 
-// The number that the bytes w are.
-fn read_number(w: &[u8]) -> Number
-    ensures { result ≡ as_number (number_of w.now) }
+// The value with one digit more behind it, if a number may be as large.
+fn grown(value: u32, last: u32) -> Option<u32>
+    ensures { SomeIff result (value * 10 + last ≤ largest) (value * 10 + last) }
 {
-    if starts_well(w) {
-        return checked(value(w));
-    }
-    Number::No
+    value.checked_mul(10)?.checked_add(last)
 }
 
-// Whether w has a byte, and no leading zero.
-fn starts_well(w: &[u8]) -> bool
-    ensures { result ≡ starts_well w.now }
+// Whether there is a byte, and no leading zero.
+#[tactic(auto, using(crate::specs::Value::starts_none, crate::specs::Value::starts_one, crate::specs::Value::starts_more))]
+fn starts_well(word: &[u8]) -> bool
+    ensures { result ≡ starts_well word.now }
 {
-    if w.len() == 0 {
-        return false;
+    match word {
+        [] => false,
+        [_] => true,
+        [first, ..] => *first != b'0',
     }
-    if w.len() == 1 {
-        return true;
-    }
-    w[0] != b'0'
 }
 
-// The value of the digits w, or PAST where it is larger or some byte is no digit.
-fn value(w: &[u8]) -> u64
-    ensures { result ≡ capped 0 w.now }
+#[tactic(auto, unfolding(crate::specs::Reading::as_option, crate::specs::Number::given, crate::specs::Number::is_digit))]
+fn digit(b: u8) -> Option<u32>
+    ensures { result ≡ as_option (given (is_digit b) (b - 48)) }
 {
-    let mut v: u64 = 0;
-    for i in 0..w.len() {
-        v = grown(v, w[i]);
+    match b {
+        b'0'..=b'9' => Some((b - b'0') as u32),
+        _ => None,
     }
-    v
-}
-
-// The value with one digit more behind it, up to PAST.
-fn grown(v: u64, b: u8) -> u64
-    requires { v ≤ past }
-    ensures { result ≡ grown_by v b }
-{
-    if b < b'0' {
-        return PAST;
-    }
-    if b'9' < b {
-        return PAST;
-    }
-    let more = v * 10 + (b - b'0') as u64;
-    if more < PAST {
-        return more;
-    }
-    PAST
-}
-
-fn checked(v: u64) -> Number
-    ensures { result ≡ as_number (within v) }
-{
-    if v < PAST {
-        return Number::Is(v as u32);
-    }
-    Number::No
 }

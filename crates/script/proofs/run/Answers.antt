@@ -1,77 +1,97 @@
 -- Assumes nothing.
-use Rattle.std.proofs.Common.{◌≡◌, ℕ, ◌+◌, ◌≤◌, List, [], ◌∷◌, take, get_or, sym, ap, ◌∙◌, arith}
-use Rattle.std.proofs.Math.Seq.{get_or-take}
+use Rattle.std.proofs.Common.{◌≡◌, ◌≤◌, ℕ, suc, List, [], ◌∷◌, ◌++◌, length, refl, sym, ap, ◌∙◌, Fits, w32, rules, arith, add-one, append_assoc}
 use Rattle.text.specs.Line.{line_of}
-use Rattle.text.specs.Reading.{line_at}
-use Rattle.text.specs.Lines.{line_read}
-use Rattle.text.specs.OneLine.{length-bad-line}
-use Rattle.text.specs.declared.Line.{Line}
-use Rattle.text.specs.Printing.{Put}
-use Rattle.text.specs.Walk.{Walked, walked-length, walked-turn, walked-bad, walked_end}
-use Rattle.table.specs.declared.Table.{Table}
-use Rattle.table.specs.declared.Outcome.{Outcome}
+use Rattle.text.specs.OneLine.{length-line}
+use Rattle.text.specs.Lines.{line-known}
+use Rattle.text.specs.Walk.{run-bad, run-event, run_end}
+use Rattle.text_print.specs.Page.{prints_none, prints_both}
 use Rattle.table.proofs.Kept.{event-sound}
 use Rattle.table.specs.Room.{event-room}
-use Rattle.table.specs.Rules.{event_rule}
-use Rattle.script.specs.Rules.{event_of, set_up, event}
+use Rattle.script.specs.Rules.{set_up, event}
+use Rattle.script.specs.Stops.{said, ending}
+use Rattle.std.proofs.lemmas.Result.{err_from_is_err_and}
+use Rattle.desk.specs.declared.Reply.{Reply}
+use Rattle.table.specs.declared.Table.{Table}
+use Rattle.text.specs.Line.{lines_of}
+use Rattle.text.specs.Script.{run}
+use Rattle.script.proofs.Ends.{short-bad, outcome-is, length-kept, some-left, none-left}
 use Rattle.script.proofs.run.Goals as goal
 
--- the event that the line's numbers are
-event-is : (n : List ℕ) → event_of (take 4 n) ≡ record { kind = get_or n 0 0; desk = get_or n 1 0; cell = get_or n 2 0; word = get_or n 3 0 }
-unfolding event_of
-event-is n =
-    rw (get_or-take 4 n 0 0 (omega arith), get_or-take 4 n 1 0 (omega arith), get_or-take 4 n 2 0 (omega arith), get_or-take 4 n 3 0 (omega arith))
-
--- a turn: the line is that of the place, the outcome is that of the rule
-turn : (s : List ℕ) {whole old mid new : List ℕ} {t : Table} {n at o o' : ℕ} (l : Line) (x : Outcome)
-    → Walked set_up event s whole old t n at mid o → l ≡ line_at s at → l.count ≡ 4
-    → x ≡ event_rule t (record { kind = get_or l.n 0 0; desk = get_or l.n 1 0; cell = get_or l.n 2 0; word = get_or l.n 3 0 })
-    → Put (line_of (x.reply.code ∷ x.reply.value ∷ x.reply.count ∷ [])) mid o new o' → o' ≤ o + 33
-    → Walked set_up event s whole old x.after (n + 1) l.next new o'
-unfolding event
-turn s {t = t} {at = at} l x w q e outcome p short =
-    rw q
-    (walked-turn set_up event s w (rw q at e)
-    (rw (← q)
-    (ap (λ (y : Outcome). (y.reply.code ∷ y.reply.value ∷ y.reply.count ∷ [], y.after))
-    (ap (event_rule t) (event-is l.n) ∙ sym outcome)))
-    (omega (arith, p.after))
-    p)
-
-pub put_bad_line-requires : goal.put_bad_line-requires
-put_bad_line-requires c =
-    let w = c.loop-at.invariant.walked in
-    omega (arith, w.room, w.count, walked-length set_up event c.args.s.now w, length-bad-line c.loop-at.n (omega (arith, w.count)))
-
-pub returns-then-l-ne4-clause-put : goal.returns-then-l-ne4-clause-put
-returns-then-l-ne4-clause-put c =
-    let q = c.read_line-l.ensures in
-    walked-bad set_up event c.args.s.now c.loop-at.invariant.walked (omega arith) (λ e. c.if-l-ne4.true (ap (λ (l : Line). l.count) q ∙ e))
-    c.put_bad_line.ensures
-
-pub returns-then-l-ne4-clause-upper_bound : goal.returns-then-l-ne4-clause-upper_bound
-returns-then-l-ne4-clause-upper_bound c =
-    let w = c.loop-at.invariant.walked in
-    omega (arith, w.room, w.count, c.put_bad_line.ensures.after, length-bad-line c.loop-at.n (omega (arith, w.count)))
-
-pub loop-at-smaller : goal.loop-at-smaller
-loop-at-smaller c =
-    let q = c.read_line-l.ensures in
-    let r = line_read c.args.s.now c.loop-at.at 4 (omega arith) (sym (ap (λ (l : Line). l.count) q) ∙ c.if-l-ne4.false) in
-    omega (arith, r.after, ap (λ (l : Line). l.next) q)
-
-pub loop-at-preserved : goal.loop-at-preserved
-loop-at-preserved c =
-    let i = c.loop-at.invariant in
-    let w = i.walked in
-    let x = c.next-done in
-    let put = c.put_line-o.ensures in
+pub loop-rest-init : goal.loop-rest-init
+loop-rest-init c =
     record {
-      walked = turn c.args.s.now c.read_line-l.result x.result w c.read_line-l.ensures c.if-l-ne4.false x.ensures put.0 put.1;
-      short = omega (arith, w.room, c.loop-at-test.true, c.requires.s_len_bound, put.1);
-      sound = rw x.ensures (event-sound c.loop-at.table _ i.room i.sound);
-      room = rw x.ensures (event-room c.loop-at.table _ i.room);
+      done = [];
+      prints = prints_none c.args.page.now;
+      answers = refl;
+      room = omega (arith, c.requires.blank.empty);
+      count = omega arith;
+      sound = c.requires.table.0;
+      sized = c.requires.table.1;
     }
 
-pub returns-clause-put : goal.returns-clause-put
-returns-clause-put c = walked_end set_up event c.args.s.now c.loop-at.invariant.walked (omega arith)
+pub returns-in_err-e : goal.returns-in_err-e
+unfolding ending said
+returns-in_err-e c =
+    let i = c.loop-rest.invariant in
+    let rest = c.loop-rest.rest.now in
+    let n = c.loop-rest.n in
+    let bad = c.in_err-e.ensures in
+    let p = err_from_is_err_and c.from_residual.result c.from_residual.ensures.1 in
+    let more = some-left rest c.is_empty.result c.is_empty.ensures c.loop-rest-test.true in
+    let short = short-bad n (omega (arith, i.count)) in
+    rw (p.1, p.2, bad.1)
+    (record {
+      done = i.done;
+      prints = i.prints;
+      answers = i.answers ∙ ap (λ (l : List ℕ). i.done ++ l) (run-bad set_up event rest c.loop-rest.table n more bad.0);
+      room = omega (arith, i.room, short);
+    })
+
+-- the three numbers are of 32 bits, so their line is short
+short : (x : Reply) → Fits w32 x.code → Fits w32 x.value → Fits w32 x.count → length (line_of (x.code ∷ x.value ∷ x.count ∷ [])) ≤ 33
+short x code value count = length-line x.code (x.value ∷ x.count ∷ []) (omega arith, (omega arith, (omega arith, tt)))
+
+pub put_line-requires : goal.put_line-requires
+put_line-requires c =
+    let i = c.loop-rest.invariant in
+    let x = c.next-done.result.reply in
+    let line = short x (search rules) (search rules) (search rules) in
+    omega (arith, i.room, line, length-kept i.prints, c.requires.blank.large)
+
+pub loop-rest-smaller : goal.loop-rest-smaller
+loop-rest-smaller c =
+    let read = c.in_ok-e.ensures in
+    omega (arith, (line-known c.loop-rest.rest.now read.0 c.in_ok-e.behind.now read.1).after, read.2)
+
+pub loop-rest-preserved : goal.loop-rest-preserved
+loop-rest-preserved c =
+    let i = c.loop-rest.invariant in
+    let rest = c.loop-rest.rest.now in
+    let table = c.loop-rest.table in
+    let n = c.loop-rest.n in
+    let x = c.next-done.result in
+    let text = line_of (x.reply.code ∷ x.reply.value ∷ x.reply.count ∷ []) in
+    let read = c.in_ok-e.ensures in
+    let after = (line-known rest read.0 c.in_ok-e.behind.now read.1).after in
+    let line = short x.reply (search rules) (search rules) (search rules) in
+    let left : List ℕ = run set_up event x.after (suc n) (lines_of c.in_ok-e.behind.now) in
+    let turn : run set_up event table n (lines_of rest) ≡ text ++ left =
+    run-event set_up event rest read.1 table n read.2
+    ∙ ap (λ (y : List ℕ × Table). line_of y.0 ++ run set_up event y.1 (suc n) (lines_of c.in_ok-e.behind.now)) (outcome-is table read.0 c.in_ok-e.e x read.3 c.next-done.ensures) in
+    record {
+      done = i.done ++ text;
+      prints = prints_both i.prints c.put_line.ensures;
+      answers = rw (add-one n) (i.answers ∙ ap (λ (l : List ℕ). i.done ++ l) turn ∙ sym (append_assoc i.done text left));
+      room = omega (arith, i.room, c.put_line.ensures.put.after, line, after, read.2);
+      count = omega (arith, i.count, after, read.2);
+      sound = rw c.next-done.ensures (event-sound table _ i.sized i.sound);
+      sized = rw c.next-done.ensures (event-room table _ i.sized);
+    }
+
+pub returns : goal.returns
+unfolding ending
+returns c =
+    let i = c.loop-rest.invariant in
+    let rest = c.loop-rest.rest.now in
+    let end = run_end set_up event rest c.loop-rest.table c.loop-rest.n (none-left rest c.is_empty.result c.is_empty.ensures c.loop-rest-test.false) in
+    record { done = i.done; prints = i.prints; answers = i.answers ∙ ap (λ (l : List ℕ). i.done ++ l) end; room = omega (arith, i.room) }

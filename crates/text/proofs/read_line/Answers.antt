@@ -1,23 +1,34 @@
--- No LF, or a line.
+-- No LF, a line that is malformed, or its numbers and what stands behind the LF.
 -- Assumes nothing.
-use Rattle.std.proofs.Common.{◌≡◌, ◌+◌, length, drop, sym, ap, arith}
-use Rattle.text.specs.Line.{lf, before}
-use Rattle.text.specs.Reading.{followed, no_numbers}
-use Rattle.text.specs.Row.{line-open, line-here}
-use Rattle.text.specs.Cut.{part-before}
-use Rattle.text.specs.declared.Numbers.{Numbers}
+use Rattle.std.proofs.Common.{◌≡◌, ◌+◌, ◌-◌, ℕ, List, length, take, drop, sym, ap, ◌∙◌, arith, length-take-le, length-drop}
+use Rattle.std.proofs.Math.Seq.{take_all}
+use Rattle.std.proofs.Math.Option.{none, some}
+use Rattle.text.specs.Line.{line_numbers}
+use Rattle.text.specs.Reading.{few, line_read, line_found, with_rest}
+use Rattle.text.specs.Row.{option-some, option-none}
+use Rattle.text.specs.Cut.{first-none, first-some}
 use Rattle.text.proofs.read_line.Goals as goal
 
-pub returns-then-s-end : goal.returns-then-s-end
-unfolding followed no_numbers
-returns-then-s-end c = sym (line-open c.args.s.now c.args.at (omega (arith, c.find-end.ensures)))
+pub returns-in_err-end : goal.returns-in_err-end
+unfolding line_read line_found
+returns-in_err-end c = rw (c.from_residual.ensures, first-none c.args.text.now (sym c.find.ensures ∙ c.in_err-end.was))
+
+pub returns-in_err-numbers : goal.returns-in_err-numbers
+unfolding line_read line_found with_rest
+returns-in_err-numbers c =
+    let text = c.args.text.now in
+    let end = c.in_ok-end.end in
+    let first = first-some text end (sym c.find.ensures ∙ c.in_ok-end.was) in
+    let no : few (line_numbers (take end text)) ≡ none = option-none _ (sym c.read_numbers.ensures ∙ c.in_err-numbers.was) in
+    rw (c.from_residual-in_err-numbers.ensures, first.0, no)
 
 pub returns : goal.returns
-unfolding followed
+unfolding line_read line_found with_rest
 returns c =
-    let s = c.args.s.now in
-    let at = c.args.at in
-    let end = c.find-end.result in
-    let ends : end ≡ at + length (before lf (drop at s)) = c.find-end.ensures in
-    rw (line-here s at (omega arith), ← ends, ← part-before lf s at end ends)
-    (ap (λ (all : Numbers). followed all (end + 1)) c.read_numbers-all.ensures)
+    let text = c.args.text.now in
+    let end = c.in_ok-end.end in
+    let first = first-some text end (sym c.find.ensures ∙ c.in_ok-end.was) in
+    let is : few (line_numbers (take end text)) ≡ some c.in_ok-numbers.numbers = option-some _ _ (sym c.read_numbers.ensures ∙ c.in_ok-numbers.was) in
+    let long : length (take end text) ≡ end = length-take-le end text (omega (arith, first.1)) in
+    let behind = take_all (length text - (end + 1)) (drop (end + 1) text) (omega (arith, length-drop (end + 1) text)) in
+    rw (first.0, is, long) (ap (λ (rest : List ℕ). some (c.in_ok-numbers.numbers, rest)) (sym behind))
