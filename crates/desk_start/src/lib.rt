@@ -7,7 +7,7 @@ ghost use Rattle.desk.specs.Start.{fresh_record, fresh_tray, keepers_right, no_r
 use desk::{Cell, Counts, Place, Plan, Record, Seat, Tray};
 use theory_refusals::Refusal;
 
-// A desk's record for any plan and any number, in place of the one that is lent.
+// A desk's record for any plan and any number, in place of the one that is lent. It tells a code, since C calls it.
 pub fn start(v: &mut Record, plan: Plan, desk: u32) -> u32
     ensures { (result ≡ (start_rule plan desk).code) × (v.new ≡ (start_rule plan desk).«record») }
 {
