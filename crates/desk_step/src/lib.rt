@@ -78,7 +78,7 @@ fn receive(v: &mut Record, m: Message) -> Answer
 }
 
 // Kinds 1 Read, 2 Write and 5 Drop for this desk, whatever desk the event names.
-#[tactic(auto, unfolding(desk::specs::Rules::event_rule), using(crate::proofs::Steps::unless_err, crate::proofs::Steps::unless_ok))]
+#[tactic(auto, unfolding(desk::specs::Rules::event_rule, theory_refusals::specs::Refusals::unless))]
 pub fn event(v: &mut Record, e: Event) -> Answer
     ensures { (result ≡ answer_of (event_rule v.old e)) × (v.new ≡ (event_rule v.old e).after) }
 {
@@ -89,7 +89,7 @@ pub fn event(v: &mut Record, e: Event) -> Answer
 }
 
 // A request of another desk for a cell that this desk keeps.
-#[tactic(auto, unfolding(desk::specs::Rules::serve_rule), using(crate::proofs::Steps::unless_err, crate::proofs::Steps::unless_ok))]
+#[tactic(auto, unfolding(desk::specs::Rules::serve_rule, theory_refusals::specs::Refusals::unless))]
 pub fn serve(v: &mut Record, m: Message) -> Answer
     ensures { (result ≡ answer_of (serve_rule v.old m)) × (v.new ≡ (serve_rule v.old m).after) }
 {
@@ -100,7 +100,7 @@ pub fn serve(v: &mut Record, m: Message) -> Answer
 }
 
 // The answer to what this desk asked comes home.
-#[tactic(auto, unfolding(desk::specs::Rules::bring_rule), using(crate::proofs::Steps::unless_err, crate::proofs::Steps::unless_ok))]
+#[tactic(auto, unfolding(desk::specs::Rules::bring_rule, theory_refusals::specs::Refusals::unless))]
 pub fn bring(v: &mut Record, m: Message) -> Answer
     ensures { (result ≡ answer_of (bring_rule v.old m)) × (v.new ≡ (bring_rule v.old m).after) }
 {
