@@ -1,6 +1,6 @@
 #![tactic(auto)]
 // A desk's three steps where its record lies: a step names the cells that it touches, and nothing large is copied.
-ghost use Rattle.std.specs.Prelude.{◌≡◌, ◌<◌, ◌≤◌, length};
+ghost use Rattle.std.specs.Prelude.{◌≡◌, ◌≤◌};
 ghost use Rattle.desk.specs.InPlace.{lost_in, loss_in};
 ghost use Rattle.desk.specs.Rules.{answer_of, event_refusal, event_done, event_rule, serve_refusal, serve_done, serve_rule};
 ghost use Rattle.desk.specs.Rules.{bring_refusal, bring_done, bring_rule};
@@ -24,6 +24,7 @@ fn lose(v: &mut Record, learnt: Clock) -> u32
 {
     // Read as a slice, the row shows the proof how long it is.
     let _row: &[Cell] = &v.row;
+    // A copy of the tray's few bytes: nothing of the record is read while its row is lent.
     let t = v.tray;
     let d = v.desk as usize;
     rows::lose(&mut v.row[..t.counts.cells as usize], &t, d, learnt)
