@@ -39,12 +39,15 @@ fn begin(desks: u32, cells: u32, s: &[u8], at: usize, out: &mut [u8]) -> usize
     if (0 < cells) & (cells <= 32) {
         return second(desks, cells, s, at, out);
     }
-    let made = table_set_up::made(Plan {
+    let code = match table_set_up::made(Plan {
         desks,
         cells,
         keepers: [0; 32],
-    });
-    put_single(made.code, out, 0)
+    }) {
+        Ok(_) => 0,
+        Err(r) => r.number(),
+    };
+    put_single(code, out, 0)
 }
 
 // The answer from line 2 on.
@@ -60,16 +63,14 @@ fn second(desks: u32, cells: u32, s: &[u8], at: usize, out: &mut [u8]) -> usize
         return put_bad_line(2, out, 0);
     }
     let keepers = two.n;
-    let made = table_set_up::made(Plan {
+    match table_set_up::made(Plan {
         desks,
         cells,
         keepers,
-    });
-    let code = made.code;
-    if code != 0 {
-        return put_single(code, out, 0);
+    }) {
+        Ok(table) => run(table, s, two.next, out),
+        Err(r) => put_single(r.number(), out, 0),
     }
-    run(made.table, s, two.next, out)
 }
 
 // The answer to the events. A fresh table is sound and every event keeps it so: none is tested.

@@ -1,6 +1,6 @@
 -- Another count, a refused set-up, or the events.
 -- Assumes nothing.
-use Rattle.std.proofs.Common.{◌≡◌, ℕ, ◌≤◌, ◌<◌, List, [], length, drop, Fits, w32, sym, ap, ◌∙◌, rules, arith}
+use Rattle.std.proofs.Common.{◌≡◌, ℕ, ◌≤◌, ◌<◌, List, [], length, drop, Fits, w32, refl, sym, ap, ◌∙◌, rules, arith}
 use Rattle.std.proofs.Math.Path.{ap₂}
 use Rattle.text.specs.Line.{lines_of, bad_line}
 use Rattle.text.specs.Reading.{line_at}
@@ -48,43 +48,46 @@ returns-then-two-cells-clause-upper_bound c = omega (arith, c.put_bad_line.ensur
 
 pub put_single-requires : goal.put_single-requires
 put_single-requires c =
-    let code : Fits w32 c.made-made.result.code = search rules in
-    omega (arith, c.requires, length-line c.made-made.result.code [] (omega arith, tt))
+    let code : Fits w32 c.number.result = search rules in
+    omega (arith, c.requires, length-line c.number.result [] (omega arith, tt))
 
-pub returns-then-code-ne0-clause-put : goal.returns-then-code-ne0-clause-put
-returns-then-code-ne0-clause-put c =
+pub returns-in-Err-clause-put : goal.returns-in-Err-clause-put
+returns-in-Err-clause-put c =
     let a = c.args in
     let l = c.read_line-two in
-    let m = c.made-made in
+    let n = c.number.result in
     let cells = c.requires.cells_nonzero in
+    let plan : Plan = record { desks = a.desks; cells = a.cells; keepers = l.result.n } in
+    let told : n ≡ (set_up_rule plan).code = c.number.ensures ∙ c.in-Err.ensures.code in
+    let m : SetUp = record { code = n; table = (set_up_rule plan).table } in
+    let is : m ≡ set_up_rule plan = λ i. record { code = told i; table = (set_up_rule plan).table } in
     rw (
-      made-is a.s.now a.at a.desks a.cells cells.0 cells.1 l.result l.ensures m.result c.if-two-cells.false m.ensures,
-      started-refused set_up event a.s.now l.result.next m.result.code m.result.table c.if-code-ne0.true,
+      made-is a.s.now a.at a.desks a.cells cells.0 cells.1 l.result l.ensures m c.if-two-cells.false is,
+      started-refused set_up event a.s.now l.result.next n (set_up_rule plan).table (λ none. grind arith),
     )
     c.put_single.ensures
 
-pub returns-then-code-ne0-clause-upper_bound : goal.returns-then-code-ne0-clause-upper_bound
-returns-then-code-ne0-clause-upper_bound c =
-    let code : Fits w32 c.made-made.result.code = search rules in
-    omega (arith, c.put_single.ensures.after, length-line c.made-made.result.code [] (omega arith, tt))
+pub returns-in-Err-clause-upper_bound : goal.returns-in-Err-clause-upper_bound
+returns-in-Err-clause-upper_bound c =
+    let code : Fits w32 c.number.result = search rules in
+    omega (arith, c.put_single.ensures.after, length-line c.number.result [] (omega arith, tt))
 
 pub run-requires-clause-t_value : goal.run-requires-clause-t_value
 run-requires-clause-t_value c =
-    let m = c.made-made in
     let long : length c.read_line-two.result.n ≡ 32 = search rules in
     let plan : Plan = record { desks = c.args.desks; cells = c.args.cells; keepers = c.read_line-two.result.n } in
-    let done : m.result.code ≡ 0 = omega arith in
-    (rw m.ensures (set-up-sound plan long (rw (← m.ensures) done)), rw m.ensures (set-up-room plan long))
+    rw c.in-Ok.ensures.table (set-up-sound plan long (sym c.in-Ok.ensures.code), set-up-room plan long)
 
-pub returns-clause-put : goal.returns-clause-put
-returns-clause-put c =
+pub returns-in-Ok-clause-put : goal.returns-in-Ok-clause-put
+returns-in-Ok-clause-put c =
     let a = c.args in
     let l = c.read_line-two in
-    let m = c.made-made in
     let cells = c.requires.cells_nonzero in
-    let done : m.result.code ≡ 0 = omega arith in
+    let plan : Plan = record { desks = a.desks; cells = a.cells; keepers = l.result.n } in
+    let m : SetUp = record { code = 0; table = c.in-Ok.table } in
+    let is : m ≡ set_up_rule plan = λ i. record { code = c.in-Ok.ensures.code i; table = c.in-Ok.ensures.table i } in
     rw (
-      made-is a.s.now a.at a.desks a.cells cells.0 cells.1 l.result l.ensures m.result c.if-two-cells.false m.ensures,
-      started-run set_up event a.s.now l.result.next m.result.code m.result.table done,
+      made-is a.s.now a.at a.desks a.cells cells.0 cells.1 l.result l.ensures m c.if-two-cells.false is,
+      started-run set_up event a.s.now l.result.next 0 c.in-Ok.table refl,
     )
     c.run.ensures.put

@@ -8,9 +8,6 @@ use Rattle.theory_refusals.specs.Numbers.{number_of}
 use Rattle.theory_refusals.specs.Refusals.{unless-done}
 use Rattle.table_set_up.proofs.made.Goals as goal
 
-pub tray-requires : goal.tray-requires
-tray-requires c = sym c.in_ok-check_plan.ensures
-
 pub fresh-requires : goal.fresh-requires
 fresh-requires c =
     let long : length c.args.plan.keepers ≡ 32 = search rules in

@@ -7,9 +7,6 @@ use Rattle.table.specs.SetUpInPlace.{housed, set-up-refused}
 use Rattle.theory_refusals.specs.Refusals.{unless-done}
 use Rattle.table_set_up.proofs.set_up.Goals as goal
 
-pub tray-requires : goal.tray-requires
-tray-requires c = sym c.in-Ok.ensures
-
 pub fresh-requires : goal.fresh-requires
 fresh-requires c =
     let long : length c.args.plan.keepers ≡ 32 = search rules in
