@@ -1,3 +1,4 @@
+pub mod Causal
 pub mod Clock
 pub mod Laws
 pub mod Order

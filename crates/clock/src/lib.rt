@@ -1,11 +1,14 @@
 #![tactic(auto)]
 // A clock: eight 32-bit numbers, one per desk. It tells which writes a desk knows of.
-ghost use Rattle.std.specs.Prelude.{◌≡◌, max};
-ghost use Rattle.clock.specs.Clock.{zero_clock, merged, is_before, is_within};
-ghost use Rattle.clock.specs.Order.{order_of};
+ghost use Rattle.std.specs.Prelude.{◌≡◌, bit_or};
+ghost use Rattle.clock.specs.Clock.{zero_clock, paired, merged, is_before, is_within};
+ghost use Rattle.clock.specs.Causal.{all_no_larger, causal_cmp, causal-laws};
+
+use std::cmp::Ordering;
+use std::ops::BitOr;
 
 #[repr(C)]
-#[derive(Clone, Copy)]
+#[derive(Clone, Copy, PartialEq, Eq, Debug)]
 pub struct Clock {
     pub n: [u32; 8],
 }
@@ -19,61 +22,86 @@ impl Clock {
         ensures { result ≡ merged self other }
     {
         let mut all = self;
-        for k in 0..8 {
-            all.n[k] = larger(self.n[k], other.n[k]);
+        for (k, number) in all.n.iter_mut().enumerate() {
+            *number = (*number).max(other.n[k]);
         }
         all
     }
 
     // Strictly before: no number is larger than the other clock's, and at least one is smaller.
+    #[tactic(auto, using(crate::specs::Causal::lt_before))]
     pub fn before(self, other: Clock) -> bool
         ensures { result ≡ is_before self other }
     {
-        let all = order(self.n[0], other.n[0])
-            | order(self.n[1], other.n[1])
-            | order(self.n[2], other.n[2])
-            | order(self.n[3], other.n[3])
-            | order(self.n[4], other.n[4])
-            | order(self.n[5], other.n[5])
-            | order(self.n[6], other.n[6])
-            | order(self.n[7], other.n[7]);
-        all == 1
+        self < other
     }
 
     // Whether the numbers past the desk count are 0.
+    // (A flag and no early end: `iter().skip(desks).all(..)` took the table's soundness from 0.61 of the twin's time to 1.07.)
     pub fn within(self, desks: u8) -> bool
         ensures { result ≡ is_within desks self }
     {
         let count = desks as usize;
         let mut rest_zero = true;
-        for place in 0..8 {
-            rest_zero = rest_zero & ((place < count) | (self.n[place] == 0));
+        for (place, number) in self.n.iter().enumerate() {
+            rest_zero &= (place < count) | (*number == 0);
         }
         rest_zero
     }
 }
 
-// How two numbers stand: 0 equal, 1 smaller, all bits larger. (One value for both, so that the compiler takes the eight pairs at once; these
-// three, because it then finds a value with two comparisons and a subtraction.)
-fn order(a: u32, b: u32) -> u32
-    ensures { result ≡ order_of a b }
+// No number is larger than the other clock's.
+fn no_later(a: &[u32], b: &[u32]) -> bool
+    ensures { result ≡ all_no_larger a.now b.now }
 {
-    if a == b {
-        0
-    } else {
-        if a < b { 1 } else { 4294967295 }
+    a.iter().zip(b).all(|(mine, theirs)| mine <= theirs)
+}
+
+// Two clocks may stand beside each other, neither before the other.
+impl PartialOrd for Clock {
+    ghost partial_cmp = { causal_cmp };
+
+    ghost laws = { causal-laws };
+
+    fn partial_cmp(&self, other: &Clock) -> Option<Ordering> {
+        match (no_later(&self.n, &other.n), no_later(&other.n, &self.n)) {
+            (true, true) => Some(Ordering::Equal),
+            (true, false) => Some(Ordering::Less),
+            (false, true) => Some(Ordering::Greater),
+            (false, false) => None,
+        }
     }
 }
 
-fn larger(a: u32, b: u32) -> u32
-    ensures { result ≡ max a b }
-{
-    if a < b { b } else { a }
+// One clock laid over another, bit by bit. (A literal: it is what the soundness loops do, and by `array::from_fn` or a loop over the places they took
+// 1.2 times as long. A loop by `iter_mut` and `zip` is as fast, but its invariant has no name for what was written.)
+impl BitOr for Clock {
+    type Output = Clock;
+
+    ghost bitor_gives = { λ a b r. r.n ≡ paired bit_or a.n b.n };
+
+    fn bitor(self, other: Clock) -> Clock {
+        let (a, b) = (self.n, other.n);
+        Clock {
+            n: [
+                a[0] | b[0],
+                a[1] | b[1],
+                a[2] | b[2],
+                a[3] | b[3],
+                a[4] | b[4],
+                a[5] | b[5],
+                a[6] | b[6],
+                a[7] | b[7],
+            ],
+        }
+    }
 }
 
-// A contract cannot name a constant, so this says what ZERO is.
-fn zero() -> Clock
-    ensures { result ≡ zero_clock }
-{
-    Clock::ZERO
+// It also says what ZERO is.
+impl Default for Clock {
+    ghost is_default = { λ c. c ≡ zero_clock };
+
+    fn default() -> Clock {
+        Clock::ZERO
+    }
 }

@@ -2,7 +2,7 @@
 // Soundness as a running sum that is tested once: what each cell and each seat adds, and the test.
 // A walk over a table's or a record's entries calls these, each on small things by value.
 ghost use Rattle.std.specs.Prelude.{◌≡◌};
-ghost use Rattle.desk_sums.specs.Sums.{joined, or_past, rest_of, add_kept, add_clock, noted, slot_bad, add_seat, add_seat_of, slot_cell, sum_fits};
+ghost use Rattle.desk_sums.specs.Sums.{rest_of, add_kept, add_clock, noted, slot_bad, add_seat, add_seat_of, slot_cell, sum_fits};
 ghost use Rattle.desk_sums.specs.Sums.{used_by, record_fits, row_count};
 
 pub mod rows;
@@ -29,57 +29,20 @@ impl Sum {
     };
 }
 
-// One clock laid over another, bit by bit.
-fn over(a: Clock, b: Clock) -> Clock
-    ensures { result ≡ joined a b }
-{
-    Clock {
-        n: [
-            a.n[0] | b.n[0],
-            a.n[1] | b.n[1],
-            a.n[2] | b.n[2],
-            a.n[3] | b.n[3],
-            a.n[4] | b.n[4],
-            a.n[5] | b.n[5],
-            a.n[6] | b.n[6],
-            a.n[7] | b.n[7],
-        ],
-    }
-}
-
-fn or8(s: Clock) -> u32
-    ensures { result ≡ or_past s 0 }
-{
-    s.n[0] | s.n[1] | s.n[2] | s.n[3] | s.n[4] | s.n[5] | s.n[6] | s.n[7]
-}
-
-// The numbers from desk d on.
-fn or_past(s: Clock, d: usize) -> u32
-    ensures { result ≡ or_past s d }
-{
-    let mut all: u32 = 0;
-    let mut k = d;
-    while k < 8 {
-        all = all | s.n[k];
-        k = k + 1;
-    }
-    all
-}
-
 impl Sum {
     // A clock that may be there, with any word; or that must be zero, with its word.
-    #[tactic(auto, unfolding(crate::specs::Sums::add_clock))]
+    #[tactic(auto, unfolding(crate::specs::Sums::add_clock, crate::specs::Sums::joined))]
     fn clock(self, carried: bool, c: Clock, word: u32) -> Sum
         ensures { result ≡ add_clock self carried c word }
     {
         if carried {
             return Sum {
-                h: over(self.h, c),
+                h: self.h | c,
                 ..self
             };
         }
         Sum {
-            z: over(self.z, c),
+            z: self.z | c,
             w: self.w | word as u64,
             ..self
         }
@@ -134,11 +97,10 @@ impl Sum {
         self.seat(d < n.desks as usize, n.cells, p.kept_by(d), v)
     }
 
-    #[tactic(auto, unfolding(crate::specs::Sums::sum_fits))]
     pub fn fits(self, desks: u8) -> bool
         ensures { result ≡ sum_fits self desks }
     {
-        (self.w == 0) & ((or8(self.z) | or_past(self.h, desks as usize)) == 0)
+        (self.w == 0) & (self.z.within(0) & self.h.within(desks))
     }
 }
 

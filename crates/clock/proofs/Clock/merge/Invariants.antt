@@ -5,4 +5,4 @@ use Rattle.clock.specs.Clock.{number}
 use Rattle.clock.proofs.Clock.merge.Given as goal
 
 abbrev pub invariant-loop-k : goal.invariant-loop-k
-invariant-loop-k l = l.all.n ≡ up_to (λ (k : ℕ). max (number l.self k) (number l.other k)) l.k l.self.n
+invariant-loop-k l = l.number-items ≡ up_to (λ (k : ℕ). max (number l.fn.self k) (number l.other k)) l.k l.fn.self.n

@@ -7,4 +7,4 @@ use Rattle.clock.proofs.Clock.within.Given as goal
 
 abbrev pub invariant-loop-place : goal.invariant-loop-place
 invariant-loop-place l =
-    every (map_at (zero_past l.desks) l.self.n) ≡ (l.rest_zero && every (drop l.place (map_at (zero_past l.desks) l.self.n)))
+    every (map_at (zero_past l.desks) l.fn.self.n) ≡ (l.rest_zero && every (drop l.place (map_at (zero_past l.desks) l.fn.self.n)))
