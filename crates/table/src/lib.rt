@@ -27,7 +27,7 @@ pub struct Outcome {
     pub after: Table,
 }
 
-// What setting up gives: code 0 and the fresh table, or a refusal and an all-zero one.
+// What setting up comes to, as the definitions say it: code 0 and the fresh table, or a refusal and an all-zero one.
 #[derive(Clone, Copy)]
 pub struct SetUp {
     pub code: u32,
