@@ -4,6 +4,7 @@ ghost use Rattle.std.specs.Prelude.{◌≡◌};
 ghost use Rattle.desk.specs.Desk.{kept_by};
 
 use clock::Clock;
+use kinds::Kind;
 
 pub mod kinds;
 pub mod sound;
@@ -33,7 +34,8 @@ impl Cell {
     };
 }
 
-// What a desk waits for: kind 0 nothing, 1 read asked, 2 write asked (word, sent clock), 3 read answered, 4 write answered (word, stamp).
+// What a desk waits for: a `Kind`, and of a write asked the word and the sent clock, of an answer the word and the stamp. (The kind is a number here,
+// in an event and in a message, and an answer's code beside its value: C lends and passes them, and any number may stand there.)
 #[repr(C)]
 #[derive(Clone, Copy)]
 pub struct Slot {
@@ -46,7 +48,7 @@ pub struct Slot {
 impl Slot {
     // An empty slot.
     pub const NONE: Slot = Slot {
-        kind: 0,
+        kind: Kind::Nothing as u8,
         cell: 0,
         word: 0,
         clock: Clock::ZERO,
@@ -122,7 +124,7 @@ pub struct Record {
     pub row: [Cell; 32],
 }
 
-// What somebody wants of a desk: kind 1 read, 2 write, 3 take, 4 bring, 5 drop. Any number may stand anywhere.
+// What somebody wants of a desk: an `Act` as a number. Any number may stand anywhere.
 #[repr(C)]
 #[derive(Clone, Copy)]
 pub struct Event {
@@ -155,7 +157,7 @@ pub struct Message {
 impl Message {
     // No message: all zero.
     pub const NONE: Message = Message {
-        kind: 0,
+        kind: Kind::Nothing as u8,
         desks: 0,
         desk: 0,
         cell: 0,
@@ -189,7 +191,8 @@ pub struct Plan {
     pub keepers: [u32; 32],
 }
 
-// What starting comes to, as the definitions say it: code 0 and the desk's fresh record, or a refusal and an all-zero one.
+// What starting comes to: code 0 and the desk's fresh record, or a refusal and an all-zero one. (A pair and no Result, since the rule `start_rule` and its
+// theorems speak of it; no code returns one.)
 #[derive(Clone, Copy)]
 pub struct Started {
     pub code: u32,

@@ -145,8 +145,9 @@ fn asked_for(s: Seat, desk: usize, e: Event) -> Slot
     }
 }
 
-// The seat of a desk that asks.
-pub fn asking(s: Seat, desk: usize, e: Event) -> Seat
+// The seat of a desk that asks. (What has a desk's number for an index asks for one below 8 here and in the crates above: C and lent memory have it as a plain
+// number, and a type of its own would have to be made from one, with this test, at each call.)
+fn asking(s: Seat, desk: usize, e: Event) -> Seat
     requires { (desk < 8) × (e.cell < 32) × (e.kind ≡ 2 → number s.clock desk ≡ 4294967295 → ⊥) × ((e.kind ≡ 1 → ⊥) → e.kind ≡ 2) }
     ensures { result ≡ asking_seat s desk e }
 {
@@ -158,7 +159,7 @@ pub fn asking(s: Seat, desk: usize, e: Event) -> Seat
 }
 
 // The seat of a keeper that writes: its own number is one higher.
-pub fn raising(s: Seat, desk: usize) -> Seat
+fn raising(s: Seat, desk: usize) -> Seat
     requires { (desk < 8) × (number s.clock desk ≡ 4294967295 → ⊥) }
     ensures { result ≡ raised_seat s desk }
 {
@@ -265,7 +266,7 @@ pub fn bring_reply(kind: u8, word: u32, stamp: Clock, count: u32) -> Reply
     reply(shown(blank), word, count)
 }
 
-// ---- replies
+// ---- replies. (The code is a number: C reads it, and any may be told.)
 pub fn refused(code: u32) -> Reply
     ensures { result ≡ refused_reply code }
 {
@@ -304,7 +305,7 @@ pub fn refused_answer(code: u32) -> Answer
     }
 }
 
-// A desk that asks sends what stands in its slot.
+// A desk that asks sends what stands in its slot. (Six fields written out: a `From` would have to take the desk counts and number too, and be no shorter.)
 #[tactic(auto, unfolding(desk::specs::Parts::asked_message))]
 pub fn asked_message(change: Change, n: Counts, desk: u8, s: Slot) -> Message
     ensures { result ≡ asked_message (change_number change) n desk s }

@@ -2,12 +2,20 @@
 // Starting: a tray as it is set up, and a desk's fresh record on it. The table sets itself up from the same parts.
 ghost use Rattle.std.specs.Prelude.{◌≡◌, ◌≤◌};
 ghost use Rattle.theory_refusals.specs.Numbers.{code_of};
-ghost use Rattle.desk.specs.Start.{fresh_record, fresh_tray, keepers_right, no_record, set_up_refusal, start_refusal, start_rule};
+ghost use Rattle.desk.specs.Start.{fresh_record, fresh_tray, keepers_right, set_up_refusal, start_refusal, start_rule};
 
 use desk::{Cell, Counts, Place, Plan, Record, Seat, Tray};
 use theory_refusals::Refusal;
 
-// A desk's record for any plan and any number, in place of the one that is lent.
+// All zero: what a refusal leaves.
+const NO_RECORD: Record = Record {
+    tray: Tray::NONE,
+    desk: 0,
+    seat: Seat::NONE,
+    row: [Cell::NONE; 32],
+};
+
+// A desk's record for any plan and any number, in place of the one that is lent. It tells a code, since C calls it.
 pub fn start(v: &mut Record, plan: Plan, desk: u32) -> u32
     ensures { (result ≡ (start_rule plan desk).code) × (v.new ≡ (start_rule plan desk).«record») }
 {
@@ -17,21 +25,10 @@ pub fn start(v: &mut Record, plan: Plan, desk: u32) -> u32
             0
         }
         Err(r) => {
-            clear(v);
+            *v = NO_RECORD;
             r.number()
         }
     }
-}
-
-// All zero: what a refusal leaves, and what a fresh record is made from.
-#[tactic(auto, unfolding(desk::specs::Start::no_record, desk::specs::Start::no_tray))]
-fn clear(v: &mut Record)
-    ensures { v.new ≡ no_record }
-{
-    v.tray = Tray::NONE;
-    v.desk = 0;
-    v.seat = Seat::NONE;
-    v.row = [Cell::NONE; 32];
 }
 
 // The desk holds the cells that it keeps, blank.
@@ -39,9 +36,11 @@ fn fresh(v: &mut Record, t: Tray, desk: u8)
     requires { t.counts.cells ≤ 32 }
     ensures { v.new ≡ fresh_record t desk }
 {
-    clear(v);
-    v.tray = t;
-    v.desk = desk;
+    *v = Record {
+        tray: t,
+        desk,
+        ..NO_RECORD
+    };
     // No `zip` with the row, as in `tray`.
     for (c, p) in t.places[..t.counts.cells as usize].iter().enumerate() {
         if p.kept_by(desk as usize) {

@@ -1,15 +1,12 @@
--- A desk's steps as the code does them are the rules: each is refused by its number, or done.
+-- A desk's steps that nothing refuses: what they may rely on, and that what the code does is what the rules say.
 -- Assumes nothing.
-use Rattle.std.specs.Prelude.{◌≡◌, ℕ, ◌≤◌, ◌<◌, length, set}
-use Rattle.std.proofs.Common.{length-set, sym, ap, ◌∙◌, arith}
+use Rattle.std.specs.Prelude.{◌≡◌, ◌≤◌, ◌<◌, length, set}
+use Rattle.std.proofs.Common.{length-set, ap, ◌∙◌, arith}
 use Rattle.std.proofs.Math.Logic.{⊎_elim}
 use Rattle.std.proofs.lemmas.Bool.Decides.{nat_tests}
 use Rattle.clock.specs.Clock.{number}
 use Rattle.theory_lists.specs.Part.{set_same}
 use Rattle.theory_lists.specs.Swept.{length-swept}
-use Rattle.theory_refusals.specs.declared.Refusal.{Refusal}
-use Rattle.theory_refusals.specs.Numbers.{number_of}
-use Rattle.theory_refusals.specs.Refusals.{unless, unless-refused, unless-done}
 use Rattle.desk.specs.declared.Event.{Event}
 use Rattle.desk.specs.declared.Message.{Message}
 use Rattle.desk.specs.declared.Record.{Record}
@@ -22,16 +19,6 @@ use Rattle.desk.specs.Rules.{answer_of, with_seat, with_row, event_refusal, even
 use Rattle.desk.specs.SoundLaws.{sound-rule}
 use Rattle.desk.proofs.InPlace.{own_in_lem, take-serves, read-serves}
 use Rattle.desk_acts.specs.Own.{own_seat, own_cell}
-
--- ---- refused, or done
-pub some-number : (r : Refusal) → number_of r ≡ 0 → ⊥
-some-number r = grind (arith)
-
-pub unless_err : {A : Type 0} (r : Refusal) (n : ℕ) (f : ℕ → A) (done : A) → number_of r ≡ n → unless n f done ≡ f (number_of r)
-unless_err r n f done e = unless-refused n f done (λ z. some-number r (e ∙ z)) ∙ ap f (sym e)
-
-pub unless_ok : {A : Type 0} (n : ℕ) (f : ℕ → A) (done : A) → 0 ≡ n → unless n f done ≡ done
-unless_ok n f done e = unless-done n f done (sym e)
 
 -- ---- an own event
 module _ (v : Record) (e : Event) (none : event_refusal v e ≡ 0) where

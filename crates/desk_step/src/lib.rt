@@ -1,6 +1,6 @@
 #![tactic(auto)]
 // A desk's three steps where its record lies: a step names the cells that it touches, and nothing large is copied.
-ghost use Rattle.std.specs.Prelude.{◌≡◌, ◌<◌, ◌≤◌, length};
+ghost use Rattle.std.specs.Prelude.{◌≡◌, ◌≤◌};
 ghost use Rattle.desk.specs.InPlace.{lost_in, loss_in};
 ghost use Rattle.desk.specs.Rules.{answer_of, event_refusal, event_done, event_rule, serve_refusal, serve_done, serve_rule};
 ghost use Rattle.desk.specs.Rules.{bring_refusal, bring_done, bring_rule};
@@ -24,6 +24,7 @@ fn lose(v: &mut Record, learnt: Clock) -> u32
 {
     // Read as a slice, the row shows the proof how long it is.
     let _row: &[Cell] = &v.row;
+    // A copy of the tray's few bytes: nothing of the record is read while its row is lent.
     let t = v.tray;
     let d = v.desk as usize;
     rows::lose(&mut v.row[..t.counts.cells as usize], &t, d, learnt)
@@ -78,7 +79,7 @@ fn receive(v: &mut Record, m: Message) -> Answer
 }
 
 // Kinds 1 Read, 2 Write and 5 Drop for this desk, whatever desk the event names.
-#[tactic(auto, unfolding(desk::specs::Rules::event_rule), using(crate::proofs::Steps::unless_err, crate::proofs::Steps::unless_ok))]
+#[tactic(auto, unfolding(desk::specs::Rules::event_rule, theory_refusals::specs::Refusals::unless))]
 pub fn event(v: &mut Record, e: Event) -> Answer
     ensures { (result ≡ answer_of (event_rule v.old e)) × (v.new ≡ (event_rule v.old e).after) }
 {
@@ -89,7 +90,7 @@ pub fn event(v: &mut Record, e: Event) -> Answer
 }
 
 // A request of another desk for a cell that this desk keeps.
-#[tactic(auto, unfolding(desk::specs::Rules::serve_rule), using(crate::proofs::Steps::unless_err, crate::proofs::Steps::unless_ok))]
+#[tactic(auto, unfolding(desk::specs::Rules::serve_rule, theory_refusals::specs::Refusals::unless))]
 pub fn serve(v: &mut Record, m: Message) -> Answer
     ensures { (result ≡ answer_of (serve_rule v.old m)) × (v.new ≡ (serve_rule v.old m).after) }
 {
@@ -100,7 +101,7 @@ pub fn serve(v: &mut Record, m: Message) -> Answer
 }
 
 // The answer to what this desk asked comes home.
-#[tactic(auto, unfolding(desk::specs::Rules::bring_rule), using(crate::proofs::Steps::unless_err, crate::proofs::Steps::unless_ok))]
+#[tactic(auto, unfolding(desk::specs::Rules::bring_rule, theory_refusals::specs::Refusals::unless))]
 pub fn bring(v: &mut Record, m: Message) -> Answer
     ensures { (result ≡ answer_of (bring_rule v.old m)) × (v.new ≡ (bring_rule v.old m).after) }
 {

@@ -1,4 +1,4 @@
--- A record and its parts for the walks (crate `walks`), and what each function of `desk_parts` does, as its callers cite it.
+-- A record and its parts for the walks (crate `walks`), and what each function of the crate `desk_parts` of before the design pass does, as its callers cite it.
 -- Assumes nothing.
 use mathlib.Core.Path.{refl}
 use mir.Syntax.{w8}

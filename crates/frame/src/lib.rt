@@ -8,7 +8,8 @@ use desk::Message;
 use desk::kinds::Kind;
 use theory_refusals::Refusal;
 
-// What reading gives: code 0, the message and how many bytes its frame has; or a refusal with an all-zero message and 0 used.
+// What reading gives: code 0, the message and how many bytes its frame has; or a refusal with an all-zero message and 0 used. (For C, as `Written` is: it
+// has no Result.)
 #[repr(C)]
 #[derive(Clone, Copy)]
 pub struct Reading {

@@ -6,6 +6,7 @@ ghost use Rattle.frame.specs.Frame.{widths, fault_in, write_rule, output_rule};
 ghost use Rattle.frame.specs.Laws.{head_of};
 ghost use Rattle.frame_write.specs.Told.{told};
 
+use clock::Clock;
 use desk::Message;
 use desk::kinds::Kind;
 use frame::{Written, fault};
@@ -66,7 +67,7 @@ fn whole(out: &mut [u8], m: &Message) -> Result<usize, Refusal>
     }
     let size = 5 + 4 * c;
     put_head(out, size, m);
-    put_numbers(out, m, n);
+    put_numbers(out, m.word, &m.clock, n);
     Ok(2 + size)
 }
 
@@ -80,10 +81,10 @@ fn put_head(out: &mut [u8], size: usize, m: &Message)
 }
 
 // The word and the first n of the clock's numbers, after the head.
-fn put_numbers(out: &mut [u8], m: &Message, n: usize)
+fn put_numbers(out: &mut [u8], word: u32, clock: &Clock, n: usize)
     requires { (n ≤ 8) × (11 + 4 * n ≤ length out.old) }
-    ensures { out.new ≡ put 7 (spell (take (1 + n) (drop 6 widths)) (m.now.word ∷ m.now.clock.n)) (4 * (1 + n)) out.old }
+    ensures { out.new ≡ put 7 (spell (take (1 + n) (drop 6 widths)) (word ∷ clock.now.n)) (4 * (1 + n)) out.old }
 {
-    u32::put(out, 7, m.word as usize);
-    put_fours(out, 11, m.clock.n, n);
+    u32::put(out, 7, word as usize);
+    put_fours(out, 11, &clock.n[..n]);
 }

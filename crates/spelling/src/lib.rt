@@ -50,12 +50,12 @@ impl Spelled for u32 {
     }
 }
 
-// The first n of eight numbers, four bytes each, from a place on.
-pub fn put_fours(out: &mut [u8], at: usize, ns: [u32; 8], n: usize)
-    requires { (n ≤ 8) × (at + 4 * n ≤ length out.old) }
-    ensures { out.new ≡ put at (spell (take n (replicate 8 4)) ns) (4 * n) out.old }
+// Numbers of four bytes each, put in one after the other from a place on.
+pub fn put_fours(out: &mut [u8], at: usize, ns: &[u32])
+    requires { at + 4 * length ns.now ≤ length out.old }
+    ensures { out.new ≡ put at (spell (replicate (length ns.now) 4) ns.now) (4 * length ns.now) out.old }
 {
-    for (k, x) in ns[..n].iter().enumerate() {
+    for (k, x) in ns.iter().enumerate() {
         u32::put(out, at + 4 * k, *x as usize);
     }
 }

@@ -5,12 +5,12 @@ ghost use Rattle.theory_refusals.specs.Numbers.{code_of};
 ghost use Rattle.table.specs.SetUp.{fresh_table, no_table, set_up_rule};
 ghost use Rattle.table.specs.SetUpInPlace.{Housed};
 
-use desk::{Cell, Plan, Seat, Tray};
+use desk::{Cell, Plan, Tray};
 use desk_start::{check_plan, tray};
 use table::Table;
 use theory_refusals::Refusal;
 
-// A fresh table from any plan, in place of the one that is lent.
+// A fresh table from any plan, in place of the one that is lent. It tells a code, since C calls it.
 pub fn set_up(t: &mut Table, plan: Plan) -> u32
     ensures { (result ≡ (set_up_rule plan).code) × (t.new ≡ (set_up_rule plan).table) }
 {
@@ -20,7 +20,7 @@ pub fn set_up(t: &mut Table, plan: Plan) -> u32
             0
         }
         Err(r) => {
-            clear(t);
+            *t = Table::NONE;
             r.number()
         }
     }
@@ -37,22 +37,13 @@ pub fn made(plan: Plan) -> Result<Table, Refusal>
     Ok(table)
 }
 
-// All zero: what a refusal leaves, and what a fresh table is made from.
-#[tactic(auto, unfolding(table::specs::SetUp::no_table, desk::specs::Start::no_tray))]
-fn clear(t: &mut Table)
-    ensures { t.new ≡ no_table }
-{
-    t.cells = [Cell::NONE; 256];
-    t.tray = Tray::NONE;
-    t.seats = [Seat::NONE; 8];
-}
-
 // Each cell is held by its keeper, blank.
+#[tactic(auto, unfolding(table::specs::SetUp::no_table, desk::specs::Start::no_tray))]
 fn fresh(t: &mut Table, x: Tray)
     requires { Housed x }
     ensures { t.new ≡ fresh_table x }
 {
-    clear(t);
+    *t = Table::NONE;
     t.tray = x;
     for (c, p) in x.places[..x.counts.cells as usize].iter().enumerate() {
         t.cells[p.keeper as usize * 32 + c] = Cell::BLANK;

@@ -7,13 +7,13 @@ use Rattle.desk.specs.Start.{blank_cell}
 use Rattle.table.specs.declared.Table.{Table}
 use Rattle.table.specs.Changes.{with_cell}
 use Rattle.table.specs.SetUp.{no_table}
-use Rattle.table.specs.SetUpInPlace.{with_tray, home, kept_to, kept-none, kept-one, kept_fresh}
+use Rattle.table.specs.SetUpInPlace.{home, kept_to, kept-none, kept-one, kept_fresh}
 use Rattle.table_set_up.proofs.Cleared.{cleared, few}
 use Rattle.table_set_up.proofs.fresh.Goals as goal
 
 pub loop-c-init : goal.loop-c-init
 unfolding no_table
-loop-c-init c = ap (λ (u : Table). with_tray u c.args.x) c.clear.ensures ∙ sym (kept-none (cleared c.args.x))
+loop-c-init c = sym (kept-none (cleared c.args.x))
 
 pub loop-c-preserved : goal.loop-c-preserved
 loop-c-preserved c =
