@@ -35,7 +35,7 @@ Demand3 rule =
     → (events : List Event) (p : ℕ) → Explained (account rule (set_up_rule plan).table events) p
 
 -- ---- From an engine to the promise
--- Calls of an engine: each outcome is the rule's, from the table that the call before it left. That is what `table_next::next` promises of
+-- Calls of an engine: each outcome is the rule's, from the table that the call before it left. That is what `table_step::step` promises of
 -- each call, and `cwmorlais_table_event` of each reply and of the table that it leaves.
 abbrev pub Called : Table → List Event → List Outcome → Type 0
 Called t [] [] = Unit {0}
