@@ -1,10 +1,13 @@
 -- What is said at an end is short; and no cells, or too many, are refused.
 -- Assumes nothing.
-use Rattle.std.proofs.Common.{◌≡◌, Bool, true, false, not, cond, ◌&&◌, ◌⊎◌, inl, inr, ◌<◌, ◌≤◌, ◌-◌, [], ◌∷◌, ◌++◌, ℕ, List, length, drop, replicate, eqb, ltb, leb, sym, ap, ◌∙◌, arith}
+use Rattle.std.proofs.Common.{◌≡◌, Option, Some, None, Err, Bool, true, false, not, cond, ◌&&◌, ◌⊎◌, inl, inr, ◌<◌, ◌≤◌, ◌-◌, [], ◌∷◌, ◌++◌, ℕ, List, length, drop, replicate, eqb, ltb, leb, refl, sym, ap, ◌∙◌, arith}
+use Rattle.std.specs.Option.{ok_or}
 use Rattle.std.proofs.lemmas.Bool.{lt-leb}
 use Rattle.std.proofs.lemmas.List.{drop-replicate}
 use borrow.Author.Tests.{lt-ltb, le-ltb, eqb-true, eqb-false}
 use Rattle.std.proofs.Math.Seq.{length-sets}
+use Rattle.theory_refusals.specs.declared.Refusal.{Refusal}
+use Rattle.theory_refusals.specs.Numbers.{number_of}
 use Rattle.theory_refusals.specs.Refusals.{first_of}
 use Rattle.desk.specs.Start.{set_up_refusal, set_up_lines}
 use Rattle.desk.specs.declared.Plan.{Plan}
@@ -14,7 +17,7 @@ use Rattle.text.specs.Number.{largest}
 use Rattle.text.specs.OneLine.{length-line, length-bad-line}
 use Rattle.desk.specs.declared.Event.{Event}
 use Rattle.table.specs.declared.Table.{Table}
-use Rattle.table.specs.declared.Outcome.{Outcome}
+use Rattle.desk.specs.declared.Reply.{Reply}
 use Rattle.table.specs.Rules.{event_rule}
 use Rattle.table.specs.SetUp.{set_up_rule}
 use Rattle.text_print.specs.declared.Page.{Page}
@@ -23,13 +26,21 @@ use Rattle.script.specs.Rules.{event_of, set_up, event}
 use Rattle.script.specs.Stops.{said}
 use Rattle.script.specs.declared.Stop.TheVariants.{BadLine, Refused}
 
+-- an error that was made of an option says that nothing was there
+pub nothing-there : {T E : Type 0} (o : Option T) (e f : E) → ok_or o e ≡ Err f → (o ≡ None) × (f ≡ e)
+nothing-there None e f p = (refl, cc)
+nothing-there (Some x) e f p = (cc, cc)
+
 pub short-bad : (n : ℕ) → n ≤ largest → length (said (BadLine n)) ≤ 33
 unfolding said
 short-bad n h = omega (arith, length-bad-line n h)
 
-pub short-refused : (code : ℕ) → code ≤ largest → length (said (Refused code)) ≤ 33
+pub short-refused : (r : Refusal) → length (said (Refused r)) ≤ 33
 unfolding said
-short-refused code h = omega (arith, length-line code [] (h, tt))
+short-refused r = let small : number_of r ≤ largest = grind arith in omega (arith, length-line (number_of r) [] (small, tt))
+
+pub some-number : (r : Refusal) → number_of r ≡ 0 → ⊥
+some-number r e = grind arith
 
 refused : (p : Plan) → (leb 1 p.cells && leb p.cells 32) ≡ false → set_up_refusal p ≡ 0 → ⊥
 unfolding set_up_refusal set_up_lines first_of
@@ -55,16 +66,16 @@ pub padded : (ns ms : List ℕ) (k : ℕ) → ms ≡ ns → length ns ≡ k → 
 padded ns ms k e f = rw (e, f) (ap (λ (l : List ℕ). ns ++ l) (drop-replicate k 32 0))
 
 -- ---- what the rules make of what was read
-pub made-is : (desks cells : ℕ) (keepers : List ℕ) (m : SetUp) → m ≡ set_up_rule (record { desks = desks; cells = cells; keepers = keepers })
-    → set_up desks cells keepers ≡ (m.code, m.table)
+pub made-is : (desks cells : ℕ) (keepers : List ℕ) (code : ℕ) (t : Table)
+    → code ≡ (set_up_rule (record { desks = desks; cells = cells; keepers = keepers })).code
+    → t ≡ (set_up_rule (record { desks = desks; cells = cells; keepers = keepers })).table → set_up desks cells keepers ≡ (code, t)
 unfolding set_up
-made-is desks cells keepers m e = sym (ap (λ (x : SetUp). (x.code, x.table)) e)
+made-is desks cells keepers code t e f = rw (e, f) refl
 
-pub outcome-is : (t : Table) (ns : List ℕ) (e : Event) (x : Outcome) → e ≡ event_of ns → x ≡ event_rule t e
-    → event t ns ≡ (x.reply.code ∷ x.reply.value ∷ x.reply.count ∷ [], x.after)
+pub outcome-is : (t : Table) (ns : List ℕ) (e : Event) (reply : Reply) (after : Table) → e ≡ event_of ns
+    → reply ≡ (event_rule t e).reply → after ≡ (event_rule t e).after → event t ns ≡ (reply.code ∷ reply.value ∷ reply.count ∷ [], after)
 unfolding event
-outcome-is t ns e x same outcome =
-    ap (λ (y : Outcome). (y.reply.code ∷ y.reply.value ∷ y.reply.count ∷ [], y.after)) (ap (event_rule t) (sym same) ∙ sym outcome)
+outcome-is t ns e reply after same f g = rw (f, g, same) refl
 
 -- ---- printing keeps a page's length
 pub length-kept : {text : List ℕ} {p q : Page} → Prints text p q → length q.out.now ≡ length p.out.now

@@ -1,6 +1,7 @@
 -- Where an answer ends: what is said then, and what stands on the page before.
 -- Assumes nothing.
 use Rattle.std.specs.Prelude.{◌≡◌, true, List, [], ◌∷◌, ◌++◌, ℕ, ◌+◌, ◌≤◌, length, Result, Ok, Err}
+use Rattle.theory_refusals.specs.Numbers.{number_of}
 use Rattle.table.specs.declared.Table.{Table}
 use Rattle.table.specs.Room.{Room}
 use Rattle.table.specs.Sound.{table_sound}
@@ -14,7 +15,7 @@ use Rattle.script.specs.declared.Stop.TheVariants.{BadLine, Refused}
 
 unfoldable pub said : Stop → List ℕ
 said (BadLine n) = bad_line n
-said (Refused code) = line_of (code ∷ [])
+said (Refused r) = line_of (number_of r ∷ [])
 
 -- at the input's end nothing
 unfoldable pub ending : Result (Unit {0}) Stop → List ℕ

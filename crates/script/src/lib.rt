@@ -1,12 +1,12 @@
 #![tactic(auto)]
 // What the script program answers, as a function from an input slice to an output slice.
-ghost use Rattle.std.specs.Prelude.{true, ◌∷◌, [], ◌≡◌, ◌+◌, ◌≤◌, ℕ, List, length, MatchResult};
+ghost use Rattle.std.specs.Prelude.{Some, true, ◌∷◌, [], ◌≡◌, ◌+◌, ◌≤◌, ℕ, List, length, MatchResult};
 ghost use Rattle.std.proofs.Math.Option.{none, some};
 ghost use Rattle.table.specs.Room.{Room};
 ghost use Rattle.table.specs.Sound.{table_sound};
 ghost use Rattle.text.specs.Line.{lines_of};
 ghost use Rattle.text.specs.Printing.{Put};
-ghost use Rattle.text.specs.Reading.{line_read};
+ghost use Rattle.text.specs.Front.{front_line};
 ghost use Rattle.text.specs.Script.{first, having, run as script_run, sized, begun, answer as script_answer};
 ghost use Rattle.text_print.specs.Page.{Prints};
 ghost use Rattle.script.specs.Rules.{event_of, set_up, event};
@@ -14,8 +14,9 @@ ghost use Rattle.script.specs.Stops.{ending, EndsIn, Ready, Kept, Blank, Leaves}
 
 use desk::{Event, Plan};
 use table::Table;
-use text::read_line;
+use text::{Numbers, read_line};
 use text_print::Page;
+use theory_refusals::Refusal;
 
 // An input above this has only `too long` for an answer.
 const LONGEST: usize = 65536;
@@ -24,7 +25,7 @@ const LONGEST: usize = 65536;
 #[derive(Clone, Copy)]
 enum Stop {
     BadLine(u32),
-    Refused(u32),
+    Refused(Refusal),
 }
 
 // Puts what the whole input must answer at the start of out, and says how many bytes it has. The room is enough for any input: a reply of
@@ -50,7 +51,7 @@ fn print(s: &[u8], page: &mut Page)
     match follow(s, page) {
         Ok(()) => {}
         Err(Stop::BadLine(n)) => page.put_bad_line(n),
-        Err(Stop::Refused(code)) => page.put_line(&[code]),
+        Err(Stop::Refused(r)) => page.put_line(&[r.number()]),
     }
 }
 
@@ -68,23 +69,20 @@ fn follow(text: &[u8], page: &mut Page) -> Result<(), Stop>
 fn begin(text: &[u8]) -> Result<(Table, &[u8]), Stop>
     ensures { MatchResult result (λ r. Ready (begun set_up event (lines_of text.now)) text.now r.0 r.1.now) (EndsIn (begun set_up event (lines_of text.now))) }
 {
-    let Some((counts, text)) = read_line(text) else {
-        return Err(Stop::BadLine(1));
-    };
+    let (counts, text) = line(text, 1)?;
     let [desks, cells] = *counts.as_slice() else {
         return Err(Stop::BadLine(1));
     };
     let (keepers, text) = read_keepers(cells, text)?;
-    let made = table_set_up::made(Plan {
+    let plan = Plan {
         desks,
         cells,
         keepers,
-    });
-    let is_refused = made.code != 0;
-    if is_refused {
-        return Err(Stop::Refused(made.code));
+    };
+    match table_set_up::made(plan) {
+        Ok(table) => Ok((table, text)),
+        Err(r) => Err(Stop::Refused(r)),
     }
-    Ok((made.table, text))
 }
 
 // The keepers that line 2 gives, and the text behind it. It is not looked at if the cells are none or too many.
@@ -96,9 +94,7 @@ fn read_keepers(cells: u32, text: &[u8]) -> Result<([u32; 32], &[u8]), Stop>
     if !(0 < cells && cells <= 32) {
         return Ok((keepers, text));
     }
-    let Some((numbers, rest)) = read_line(text) else {
-        return Err(Stop::BadLine(2));
-    };
+    let (numbers, rest) = line(text, 2)?;
     let numbers = numbers.as_slice();
     if numbers.len() != cells as usize {
         return Err(Stop::BadLine(2));
@@ -120,9 +116,7 @@ fn run(fresh: Table, text: &[u8], page: &mut Page) -> Result<(), Stop>
     let mut n: u32 = 3;
     while !rest.is_empty() {
         let (e, behind) = read_event(rest, n)?;
-        let done = table_next::next(table, e);
-        table = done.after;
-        let reply = done.reply;
+        let reply = table_step::step(&mut table, e);
         page.put_line(&[reply.code, reply.value, reply.count]);
         rest = behind;
         n += 1;
@@ -133,12 +127,10 @@ fn run(fresh: Table, text: &[u8], page: &mut Page) -> Result<(), Stop>
 // The event that line n gives, and the text behind it.
 fn read_event(text: &[u8], n: u32) -> Result<(Event, &[u8]), Stop>
     ensures { MatchResult result
-        (λ r. (ns : List ℕ) × (line_read text.now ≡ some (ns, r.1.now)) × (length ns ≡ 4) × (r.0 ≡ event_of ns))
+        (λ r. (ns : List ℕ) × (front_line text.now ≡ some (Some ns, r.1.now)) × (length ns ≡ 4) × (r.0 ≡ event_of ns))
         (λ stop. (having 4 (first (lines_of text.now)) ≡ none) × (stop ≡ Stop.BadLine n)) }
 {
-    let Some((numbers, rest)) = read_line(text) else {
-        return Err(Stop::BadLine(n));
-    };
+    let (numbers, rest) = line(text, n)?;
     let [kind, desk, cell, word] = *numbers.as_slice() else {
         return Err(Stop::BadLine(n));
     };
@@ -149,4 +141,13 @@ fn read_event(text: &[u8], n: u32) -> Result<(Event, &[u8]), Stop>
         word,
     };
     Ok((e, rest))
+}
+
+// The numbers of line n, which stands at the front of the text, and the text behind it.
+fn line(text: &[u8], n: u32) -> Result<(Numbers, &[u8]), Stop>
+    ensures { MatchResult result (λ r. front_line text.now ≡ some (Some r.0, r.1.now))
+        (λ stop. ((k : ℕ) → k ≤ 32 → having k (first (lines_of text.now)) ≡ none) × (stop ≡ Stop.BadLine n)) }
+{
+    let (numbers, rest) = read_line(text).ok_or(Stop::BadLine(n))?;
+    Ok((numbers.ok_or(Stop::BadLine(n))?, rest))
 }

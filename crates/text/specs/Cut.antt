@@ -1,17 +1,34 @@
 -- Laws on a list that is cut at a byte: what stands before the first one, and the pieces between.
 -- Assumes nothing.
-use Rattle.std.specs.Prelude.{◌≡◌, refl, Bool, true, false, cond, List, [], ◌∷◌, ℕ, suc, ◌+◌, ◌<◌, ltb, eqb, length, take, drop, position}
-use Rattle.std.proofs.Common.{ap, sym, ◌∙◌, arith}
+use Rattle.std.specs.Prelude.{◌≡◌, refl, Bool, true, false, cond, List, [], ◌∷◌, ℕ, suc, ◌+◌, ◌-◌, ◌≤◌, ◌<◌, ltb, eqb, length, get_or, take, drop}
+use Rattle.std.proofs.Common.{ap, add-one, arith, length-drop, drop_of_length-le, drop-cons, lt-ltb, eq-eqb, ne_eqb}
 use Rattle.std.proofs.Math.Dec.{leb-suc-suc}
-use Rattle.std.specs.List.{position_or_len}
-use Rattle.std.proofs.lemmas.List.Recursion.{is_position_or_len}
-use Rattle.std.specs.Prelude.{Some, None}
-use Rattle.std.proofs.Math.Option.{none, some}
-use borrow.Author.Tests.{ltb-true, lt-ltb}
-use Rattle.text.specs.Number.{given}
-use Rattle.text.specs.Line.{lf, before, pieces, on_first, first_line}
+use Rattle.text.specs.Line.{before, pieces, on_first}
 
--- ---- what stands before the first b
+-- ---- the first b, as a loop finds it
+pub before_here : (b : ℕ) (l : List ℕ) (i : ℕ) → i < length l → get_or l i 0 ≡ b → length (before b (drop i l)) ≡ 0
+unfolding before
+before_here b l i h e = rw (drop-cons l i 0 h, eq-eqb _ _ e)
+
+pub before-turn : (b : ℕ) (l : List ℕ) (i : ℕ) → i < length l → (get_or l i 0 ≡ b → ⊥)
+    → length (before b (drop i l)) ≡ suc (length (before b (drop (i + 1) l)))
+unfolding before
+before-turn b l i h ne = rw (add-one, drop-cons l i 0 h, ne_eqb _ _ ne)
+
+pub before-end : (b : ℕ) (l : List ℕ) (i : ℕ) → length l ≤ i → length (before b (drop i l)) ≡ 0
+unfolding before
+before-end b l i h = rw (drop_of_length-le l h)
+
+-- ---- what stands before it is a part
+pub before-le : (b : ℕ) (l : List ℕ) → length (before b l) ≤ length l
+unfolding before
+before-le b [] = omega arith
+before-le b (x ∷ xs) = go (eqb x b) (before-le b xs)
+  where
+    go : (d : Bool) → length (before b xs) ≤ length xs → length (cond d [] (x ∷ before b xs)) ≤ suc (length xs)
+    go true h = omega arith
+    go false h = omega arith
+
 pub take-before : (b : ℕ) (l : List ℕ) → take (length (before b l)) l ≡ before b l
 unfolding before
 take-before b [] = refl
@@ -22,35 +39,13 @@ take-before b (x ∷ xs) = go (eqb x b) (take-before b xs)
     go true e = refl
     go false e = ap (λ (l : List ℕ). x ∷ l) e
 
-length-before : (b : ℕ) (l : List ℕ) → length (before b l) ≡ position_or_len (λ x. eqb x b) l
-unfolding before
-length-before b l = is_position_or_len (λ m. length (before b m)) (λ x. eqb x b) refl (λ x xs. go (eqb x b) x (before b xs)) l
-  where
-    go : (d : Bool) (x : ℕ) (w : List ℕ) → length (cond d [] (x ∷ w)) ≡ cond d 0 (1 + length w)
-    go true x w = refl
-    go false x w = omega arith
+-- the part of a list from a place up to the first b
+pub part-before : (b : ℕ) (l : List ℕ) (from end : ℕ) → end ≡ from + length (before b (drop from l))
+    → take (end - from) (drop from l) ≡ before b (drop from l)
+part-before b l from end e = let h : end - from ≡ length (before b (drop from l)) = omega arith in rw h (take-before b (drop from l))
 
--- ---- the first line of a text, by the place of its first LF
-pub first-none : (text : List ℕ) → position (λ x. eqb x lf) text ≡ None → first_line text ≡ none
-unfolding first_line given
-first-none text e = rw (length-before lf text) (go (ltb (position_or_len (λ x. eqb x lf) text) (length text)) _ e)
-  where
-    go : (d : Bool) (n : ℕ) → cond d (Some n) None ≡ None → given d (before lf text) ≡ none
-    go true n e = cc
-    go false n e = refl
-
-pub first-some : (text : List ℕ) (end : ℕ) → position (λ x. eqb x lf) text ≡ Some end → (first_line text ≡ some (take end text)) × (end < length text)
-unfolding first_line given
-first-some text end e =
-    rw (length-before lf text) (go (ltb (position_or_len (λ x. eqb x lf) text) (length text)) _ refl refl e)
-  where
-    go : (d : Bool) (n : ℕ) → n ≡ position_or_len (λ x. eqb x lf) text → ltb n (length text) ≡ d → cond d (Some n) None ≡ Some end
-        → (given d (before lf text) ≡ some (take end text)) × (end < length text)
-    go true n f g e =
-        let same : n ≡ end = cc in
-        let long : length (before lf text) ≡ end = length-before lf text ∙ sym f ∙ same in
-        (ap some (sym (take-before lf text) ∙ ap (λ (m : ℕ). take m text) long), rw same at (ltb-true n (length text) g))
-    go false n f g e = cc
+pub part-within : (b : ℕ) (l : List ℕ) (from end : ℕ) → end ≡ from + length (before b (drop from l)) → from ≤ length l → end ≤ length l
+part-within b l from end e h = omega (arith, before-le b (drop from l), length-drop from l)
 
 -- ---- the first piece, and the rest
 -- what is cut behind a first piece w of l

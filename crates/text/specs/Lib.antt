@@ -1,6 +1,11 @@
 pub mod Corners
 pub mod Cut
 pub mod Digits
+pub mod DigitTurns
+pub mod Front
+pub mod FrontAt
+pub mod FrontCut
+pub mod FrontWalk
 pub mod Line
 pub mod Lines
 pub mod Number
@@ -10,5 +15,7 @@ pub mod Printing
 pub mod Reading
 pub mod Row
 pub mod Script
+pub mod Shapes
 pub mod Value
 pub mod Walk
+pub mod WordTurns

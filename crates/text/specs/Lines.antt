@@ -1,18 +1,21 @@
--- Laws on the lines of a text, as a program reads them: what the first line says of them.
+-- Laws on the lines of a text, as a program reads them: what the line at a place says of the lines from there on.
 -- Assumes nothing.
-use Rattle.std.specs.Prelude.{◌≡◌, refl, Bool, true, false, cond, List, [], ◌∷◌, ℕ, suc, ◌+◌, ◌*◌, ◌≤◌, ◌<◌, leb, drop}
-use Rattle.std.proofs.Common.{sym, ◌∙◌, arith, length-append, lt-ltb, le-ltb, le-leb, eq-eqb, ne_eqb}
+use Rattle.std.specs.Prelude.{◌≡◌, refl, Bool, true, false, cond, List, [], ◌∷◌, ◌++◌, ℕ, suc, ◌+◌, ◌-◌, ◌*◌, ◌≤◌, ◌<◌, leb, take, drop, replicate}
+use Rattle.std.proofs.Common.{sym, ap₂, ◌∙◌, arith, length-append, drop-drop, take_at, lt-ltb, le-ltb, le-leb, eq-eqb, ne_eqb}
 use Rattle.std.proofs.Math.Path.{ap}
-use Rattle.std.proofs.Math.Option.{Option, none, some, some-injective, none-ne-some}
+use Rattle.std.proofs.Math.Option.{Option, none, some}
 use Rattle.std.proofs.Math.Decide.{dec_le, dec_lt}
 use Rattle.std.proofs.Math.ListN.{length, length-drop}
+use Rattle.std.proofs.lemmas.Bool.{lt-leb}
 use Rattle.text.specs.Number.{given, decimal}
-use Rattle.text.specs.Line.{lf, space, before, pieces, first_line, numbers_of, line_numbers, ended_lines, lines_of, joined, spaced}
+use Rattle.text.specs.Line.{lf, space, before, pieces, numbers_of, line_numbers, ended_lines, lines_of, joined, spaced}
 use Rattle.text.specs.Cut.{pieces-first}
 use Rattle.text.specs.OneText.{decimal-long}
 use Rattle.text.specs.OneLine.{read-line}
-use Rattle.text.specs.Reading.{few, with_rest, line_found, line_read}
+use Rattle.text.specs.Reading.{as_numbers, no_numbers, followed, line_at}
+use Rattle.text.specs.Row.{line-open, line-here}
 use Rattle.text.specs.Script.{first, others, having}
+pub mod Front
 
 -- ---- the lines of a text, by its first LF
 lines_none : (m : List ℕ) → length m ≡ 0 → lines_of m ≡ []
@@ -25,11 +28,10 @@ unfolding lines_of ended_lines
 lines-open m h k = rw (pieces-first lf m, le-ltb (length (before lf m)) (length m) k, ne_eqb (length (before lf m)) 0 (λ e. omega arith))
 
 lines_more : (m : List ℕ) → length (before lf m) < length m
-    → lines_of m ≡ line_numbers (before lf m) ∷ lines_of (drop (length (before lf m) + 1) m)
+    → lines_of m ≡ line_numbers (before lf m) ∷ lines_of (drop (suc (length (before lf m))) m)
 unfolding lines_of ended_lines
 lines_more m h =
-    let e : length (before lf m) + 1 ≡ suc (length (before lf m)) = omega arith in
-    rw (pieces-first lf m, lt-ltb (length (before lf m)) (length m) h, e, pieces-first lf (drop (suc (length (before lf m))) m))
+    rw (pieces-first lf m, lt-ltb (length (before lf m)) (length m) h, pieces-first lf (drop (suc (length (before lf m))) m))
 
 -- ---- how long a line of k numbers is at least: a digit and a byte behind it for each
 spaced-long : (n : ℕ) (ns : List ℕ) → 2 * length (n ∷ ns) ≤ length (spaced (n ∷ ns)) + 1
@@ -49,103 +51,100 @@ long : (l ns : List ℕ) → line_numbers l ≡ some ns → 2 * length ns ≤ le
 long l [] e = omega arith
 long l (n ∷ ns) e = omega (arith, spaced-long n ns, ap length (read-line l (n ∷ ns) (short l (n ∷ ns) e)).0)
 
--- ---- what is found says what was there
-few-some : (o : Option (List ℕ)) (ns : List ℕ) → few o ≡ some ns → o ≡ some ns
-unfolding few given
-few-some none ns e = cc
-few-some (some ms) ns e = go (leb (length ms) 32) e
-  where
-    go : (d : Bool) → given d ms ≡ some ns → some ms ≡ some ns
-    go true e = e
-    go false e = cc
-
-few-none : (o : Option (List ℕ)) (k : ℕ) → k ≤ 32 → few o ≡ none → having k o ≡ none
-unfolding few having given
-few-none none k h e = refl
-few-none (some ms) k h e =
-    elim (dec_le (length ms) 32) [
-      | yes small ↦ (let z : some ms ≡ none = rw (le-leb (length ms) 32 small) at e in cc)
-      | no large ↦ rw (ne_eqb (length ms) k (λ e. omega arith))
+-- ---- what a count of numbers says of the numbers
+read_some : (o : Option (List ℕ)) (k : ℕ) → 0 < k → (as_numbers o).count ≡ k
+    → (o ≡ some (take k (as_numbers o).n))
+    × (length (take k (as_numbers o).n) ≡ k)
+    × (take k (as_numbers o).n ++ replicate (32 - k) 0 ≡ (as_numbers o).n)
+unfolding as_numbers no_numbers
+read_some none k h e = absurd (omega arith)
+read_some (some ns) k h e =
+    elim (dec_le (length ns) 32) [
+      | yes few ↦
+          (let t = le-leb (length ns) 32 few in
+          let f : length ns ≡ k = rw t at e in
+          let front = take_at ns (replicate (32 - length ns) 0) k f in
+          rw t (ap some (sym front), ap length front ∙ f, ap₂ (λ (l : List ℕ) (j : ℕ). l ++ replicate (32 - j) 0) front (sym f)))
+      | no many ↦ (let z : 0 ≡ k = rw (lt-leb (length ns) 32 (omega arith)) at e in absurd (omega arith))
     ]
 
-rest-some : (o : Option (List ℕ)) (t ns rest : List ℕ) → with_rest o t ≡ some (ns, rest) → (o ≡ some ns) × (t ≡ rest)
-unfolding with_rest
-rest-some none t ns rest e = cc
-rest-some (some ms) t ns rest e = let p = some-injective (ms, t) (ns, rest) e in (ap (λ (x : List ℕ × List ℕ). some x.0) p, ap (λ (x : List ℕ × List ℕ). x.1) p)
+read-other : (o : Option (List ℕ)) (k : ℕ) → k ≤ 32 → ((as_numbers o).count ≡ k → ⊥) → having k o ≡ none
+unfolding as_numbers having given
+read-other none k h ne = refl
+read-other (some ns) k h ne = rw (ne_eqb (length ns) k (λ e. ne (rw (le-leb (length ns) 32 (omega arith)) e)))
 
-rest-none : (o : Option (List ℕ)) (t : List ℕ) → with_rest o t ≡ none → o ≡ none
-unfolding with_rest
-rest-none none t e = refl
-rest-none (some ms) t e = cc
-
-pub counted : (k : ℕ) (ns : List ℕ) → length ns ≡ k → having k (some ns) ≡ some ns
-unfolding having given
-counted k ns e = rw (eq-eqb (length ns) k e)
-
--- ---- the first line of a text
-module _ (text : List ℕ) where
+-- ---- the line at a place
+module _ (s : List ℕ) (at : ℕ) where
   abbrev line : List ℕ
-  line = before lf text
+  line = before lf (drop at s)
 
-  -- an LF ends it, or none does
-  read-ended : length line < length text → line_read text ≡ with_rest (few (line_numbers line)) (drop (length line + 1) text)
-  unfolding line_read line_found first_line given
-  read-ended h = rw (lt-ltb (length line) (length text) h)
+  -- what it has if an LF ends it
+  lines-here : at + length line < length s → lines_of (drop at s) ≡ line_numbers line ∷ lines_of (drop (at + length line + 1) s)
+  lines-here h =
+      lines_more (drop at s) (omega (arith, length-drop at s))
+      ∙ (let e : at + length line + 1 ≡ at + suc (length line) = omega arith in rw (e, drop-drop (suc (length line)) at s))
 
-  read-open : length text ≤ length line → line_read text ≡ none
-  unfolding line_read line_found first_line given
-  read-open h = rw (le-ltb (length line) (length text) h)
+  pub lines_end : length s ≤ at → lines_of (drop at s) ≡ []
+  lines_end h = lines_none (drop at s) (omega (arith, length-drop at s))
 
-  pub lines_end : length text ≡ 0 → lines_of text ≡ []
-  lines_end h = lines_none text h
-
-  pub lines-some : 0 < length text → lines_of text ≡ first (lines_of text) ∷ others (lines_of text)
+  pub lines-some : at < length s → lines_of (drop at s) ≡ first (lines_of (drop at s)) ∷ others (lines_of (drop at s))
   unfolding first others
   lines-some h =
-      elim (dec_lt (length line) (length text)) [
-        | yes ends ↦ rw (lines_more text ends)
-        | no endless ↦ rw (lines-open text h (omega arith))
+      elim (dec_lt (at + length line) (length s)) [
+        | yes ends ↦ rw (lines-here ends)
+        | no endless ↦ rw (lines-open (drop at s) (omega (arith, length-drop at s)) (omega (arith, length-drop at s)))
       ]
 
-  -- its numbers were read: the lines are this one and those of the rest
-  pub record Read (ns rest : List ℕ) : Type 0 where
-    pub lines : lines_of text ≡ some ns ∷ lines_of rest
-    pub after : 2 * length ns + length rest ≤ length text
+  -- as many numbers as are wanted: the lines are this one and those from the next place on
+  pub record Read (k : ℕ) : Type 0 where
+    pub lines : lines_of (drop at s) ≡ some (take k (line_at s at).n) ∷ lines_of (drop (line_at s at).next s)
+    pub many : length (take k (line_at s at).n) ≡ k
+    pub padded : take k (line_at s at).n ++ replicate (32 - k) 0 ≡ (line_at s at).n
+    pub after : at + 2 * k ≤ (line_at s at).next
+    pub inside : (line_at s at).next ≤ length s
 
-  pub line-known : (ns rest : List ℕ) → line_read text ≡ some (ns, rest) → Read ns rest
-  line-known ns rest e =
-      elim (dec_lt (length line) (length text)) [
-        | yes ends ↦
-            (let r = rest-some (few (line_numbers line)) (drop (length line + 1) text) ns rest (sym (read-ended ends) ∙ e) in
-            let numbers = few-some (line_numbers line) ns r.0 in
-            record {
-              lines = rw (lines_more text ends, numbers, r.1);
-              after = omega (arith, long line ns numbers, ap length r.1, length-drop (length line + 1) text);
-            })
-        | no endless ↦ absurd (none-ne-some (ns, rest) (sym (read-open (omega arith)) ∙ e))
+  read_here : (k : ℕ) → 0 < k → (line_at s at).count ≡ k → at + length line < length s → Read k
+  unfolding followed
+  read_here k h e ends =
+      let q = line-here s at ends in
+      let r = read_some (line_numbers line) k h (rw q at e) in
+      record {
+        lines = rw q (lines-here ends ∙ ap (λ (m : Option (List ℕ)). m ∷ lines_of (drop (at + length line + 1) s)) r.0);
+        many = rw q r.1;
+        padded = rw q r.2;
+        after = rw q (omega (arith, long line (take k (as_numbers (line_numbers line)).n) r.0, r.1));
+        inside = rw q (omega arith);
+      }
+
+  pub line_read : (k : ℕ) → 0 < k → (line_at s at).count ≡ k → Read k
+  unfolding followed no_numbers
+  line_read k h e =
+      elim (dec_lt (at + length line) (length s)) [
+        | yes ends ↦ read_here k h e ends
+        | no endless ↦ (let z : 0 ≡ k = rw (line-open s at (omega arith)) at e in absurd (omega arith))
       ]
 
-  -- they were not read, or are not as many: it is malformed where k numbers are wanted
-  pub line-unknown : (k : ℕ) → k ≤ 32 → line_read text ≡ none → having k (first (lines_of text)) ≡ none
-  unfolding first having
-  line-unknown k h e =
-      elim (dec_lt (length line) (length text)) [
-        | yes ends ↦ rw (lines_more text ends) (few-none (line_numbers line) k h (rest-none _ _ (sym (read-ended ends) ∙ e)))
-        | no endless ↦ elim (dec_lt 0 (length text)) [
-          | yes more ↦ rw (lines-open text more (omega arith))
+  module _ {k : ℕ} (r : Read k) where
+    pub read_has : having k (some (take k (line_at s at).n)) ≡ some (take k (line_at s at).n)
+    unfolding having given
+    read_has = rw (eq-eqb (length (take k (line_at s at).n)) k r.many)
+
+    pub read_first : having k (first (lines_of (drop at s))) ≡ some (take k (line_at s at).n)
+    unfolding first
+    read_first = rw r.lines read_has
+
+    pub read-others : others (lines_of (drop at s)) ≡ lines_of (drop (line_at s at).next s)
+    unfolding others
+    read-others = rw r.lines
+
+  -- another count, or no line: it is malformed where k numbers are wanted
+  pub line_other : (k : ℕ) → k ≤ 32 → ((line_at s at).count ≡ k → ⊥) → having k (first (lines_of (drop at s))) ≡ none
+  unfolding followed first having
+  line_other k h ne =
+      elim (dec_lt (at + length line) (length s)) [
+        | yes ends ↦ rw (lines-here ends) (read-other (line_numbers line) k h (λ e. ne (rw (line-here s at ends) e)))
+        | no endless ↦ elim (dec_lt at (length s)) [
+          | yes more ↦ rw (lines-open (drop at s) (omega (arith, length-drop at s)) (omega (arith, length-drop at s)))
           | no end ↦ rw (lines_end (omega arith))
         ]
       ]
-
-  module _ {ns rest : List ℕ} (read : line_read text ≡ some (ns, rest)) (k : ℕ) where
-    pub line_other : (length ns ≡ k → ⊥) → having k (first (lines_of text)) ≡ none
-    unfolding first having given
-    line_other ne = rw ((line-known ns rest read).lines, ne_eqb (length ns) k ne)
-
-    pub line_read_as : length ns ≡ k → having k (first (lines_of text)) ≡ some ns
-    unfolding first
-    line_read_as e = rw ((line-known ns rest read).lines) (counted k ns e)
-
-    pub read-others : others (lines_of text) ≡ lines_of rest
-    unfolding others
-    read-others = rw (line-known ns rest read).lines

@@ -1,7 +1,7 @@
 -- A line of numbers has exactly one text: reading what was printed gives the numbers back, and printing what was read gives the bytes back.
 -- Assumes nothing.
-use Rattle.std.specs.Prelude.{◌≡◌, refl, Bool, true, false, not, cond, ◌&&◌, eqb, length, take, drop}
-use Rattle.std.proofs.Common.{sym, ap, ◌∙◌, true≢false, arith, length-take-le, drop-drop, lt-ltb, le-leb, eqb-true, eq-eqb, ne_eqb}
+use Rattle.std.specs.Prelude.{◌≡◌, refl, Bool, true, false, not, cond, ◌&&◌, eqb, length, take, drop, replicate}
+use Rattle.std.proofs.Common.{sym, ap, ◌∙◌, true≢false, arith, length-take-le, eqb-true, eq-eqb, ne_eqb}
 use Rattle.std.proofs.Math.Path.{ap₂}
 use Rattle.std.proofs.Math.Bool.{and_assoc}
 use mathlib.Core.List.{List, [], ◌∷◌, ◌++◌, map, append_assoc}
@@ -11,14 +11,15 @@ use Rattle.std.proofs.Math.ListN.{length-append}
 use Rattle.std.proofs.Math.Seq.{drop-append_seam}
 use Rattle.std.proofs.lemmas.List.Edits.{sets-eq}
 use Rattle.theory_lists.specs.Test.{every, both, both_left, both_right}
-use Rattle.text.specs.Number.{given, largest, is_digit, number_of, decimal}
+use Rattle.text.specs.Number.{largest, is_digit, number_of, decimal}
 use Rattle.text.specs.Digits.{length-decimal}
-use Rattle.text.specs.Line.{space, lf, before, on_first, pieces, with_first, all_numbers, numbers_of, line_numbers, first_line, joined, spaced, line_of, bad_line}
+use Rattle.text.specs.Line.{space, lf, before, on_first, pieces, with_first, all_numbers, numbers_of, line_numbers, joined, spaced, line_of, bad_line}
 use Rattle.text.specs.Cut.{pieces-first}
-use Rattle.text.specs.Reading.{few, line_read, line_found, with_rest}
-use Rattle.text.specs.Row.{line-short}
+use Rattle.text.specs.Reading.{as_numbers, followed, line_at}
+use Rattle.text.specs.Row.{line-short, line-here}
 use Rattle.text.specs.Printing.{Room, Put}
 use Rattle.text.specs.OneText.{decimal-digits, printed-number, read_number}
+pub mod Front
 
 -- the numbers are of 32 bits
 abbrev pub Small : List ℕ → Type 0
@@ -142,46 +143,56 @@ pub length-bad-line : (n : ℕ) → n ≤ largest → length (bad_line n) ≤ 20
 unfolding bad_line
 length-bad-line n h = omega (arith, length-append (decimal n) (lf ∷ []), length-decimal n h)
 
--- ---- where a line was printed it is read, and what is left is what stands behind it
+-- ---- where a line was printed it is read, and the next line starts where the printing ended
 lacks-spaced : (n : ℕ) (ns : List ℕ) → lacks lf (spaced (n ∷ ns)) ≡ true
 unfolding spaced joined lacks
 lacks-spaced n [] = lacks-decimal lf no-digit-lf n
 lacks-spaced n (m ∷ ms) = lacks-append lf (decimal n) (space ∷ spaced (m ∷ ms)) ∙ both (lacks-decimal lf no-digit-lf n) (lacks-spaced m ms)
 
-line-first : (w r : List ℕ) → lacks lf w ≡ true → line_read (w ++ lf ∷ r) ≡ with_rest (few (line_numbers w)) r
-unfolding line_read line_found first_line given
-line-first w r e =
-    let front = before-lacks lf w r e in
-    let behind : drop (length w + 1) (w ++ lf ∷ r) ≡ r = rw (← drop-drop 1 (length w) (w ++ lf ∷ r)) (ap (drop 1) (drop-append_seam w (lf ∷ r))) in
-    rw (front, lt-ltb (length w) (length (w ++ lf ∷ r)) (omega (arith, length-append w (lf ∷ r)))) (ap (with_rest (few (line_numbers w))) behind)
-
-module _ (n : ℕ) (ns : List ℕ) (small : Small (n ∷ ns)) (short : length ns < 32) where
+module _ (n : ℕ) (ns : List ℕ) (small : Small (n ∷ ns)) (few : length ns < 32) where
   abbrev text : List ℕ
   text = spaced (n ∷ ns)
 
-  numbers : few (line_numbers text) ≡ some (n ∷ ns)
-  unfolding few given
-  numbers =
-      rw (line-short text (omega (arith, length-spaced n ns small)), printed-line n ns small, le-leb (length (n ∷ ns)) 32 (omega arith))
+  long : length (line_of (n ∷ ns)) ≡ length text + 1
+  unfolding line_of
+  long = length-append text (lf ∷ [])
 
-  pub line-read : (rest : List ℕ) → line_read (line_of (n ∷ ns) ++ rest) ≡ some (n ∷ ns, rest)
-  unfolding line_of with_rest
-  line-read rest = rw (append_assoc text (lf ∷ []) rest, line-first text rest (lacks-spaced n ns), numbers)
+  numbers : line_numbers text ≡ some (n ∷ ns)
+  numbers = line-short text (omega (arith, length-spaced n ns small)) ∙ printed-line n ns small
+
+  line-at : (front rest : List ℕ) → line_at (front ++ line_of (n ∷ ns) ++ rest) (length front)
+      ≡ followed (as_numbers (some (n ∷ ns))) (length front + length (line_of (n ∷ ns)))
+  unfolding line_of
+  line-at front rest =
+      line-here all (length front)
+      (omega (arith, shorter, length-append (front ++ (text ++ lf ∷ [])) rest, length-append front (text ++ lf ∷ []), long))
+      ∙ ap₂ followed (ap as_numbers (ap line_numbers line ∙ numbers)) (omega (arith, shorter, long))
+    where
+      all : List ℕ
+      all = front ++ (text ++ lf ∷ []) ++ rest
+
+      from-here : drop (length front) all ≡ text ++ lf ∷ rest
+      from-here =
+          ap (drop (length front)) (append_assoc front (text ++ lf ∷ []) rest)
+          ∙ drop-append_seam front (text ++ lf ∷ [] ++ rest)
+          ∙ append_assoc text (lf ∷ []) rest
+
+      line : before lf (drop (length front) all) ≡ text
+      line = ap (before lf) from-here ∙ before-lacks lf text rest (lacks-spaced n ns)
+
+      shorter : length (before lf (drop (length front) all)) ≡ length text
+      shorter = ap length line
 
   pub put-line-read : {old new : List ℕ} {at next : ℕ} → Room (line_of (n ∷ ns)) old at → Put (line_of (n ∷ ns)) old at new next
-      → line_read (drop at new) ≡ some (n ∷ ns, drop next new)
+      → line_at new at ≡ followed (as_numbers (some (n ∷ ns))) next
   put-line-read {old} {new} {at} {next} room p =
-      let l = line_of (n ∷ ns) in
-      let behind = drop (at + length l) old in
       let front : length (take at old) ≡ at = length-take-le at old (omega arith) in
-      let here : drop at new ≡ l ++ behind =
-      rw (p.bytes, sets-eq l old at room, append_assoc (take at old) l behind) (ap (λ (i : ℕ). drop i (take at old ++ (l ++ behind))) (sym front) ∙ drop-append_seam (take at old) (l ++ behind)) in
-      let there : drop next new ≡ behind =
-      ap (λ (i : ℕ). drop i new) p.after ∙ sym (drop-drop (length l) at new) ∙ ap (drop (length l)) here ∙ drop-append_seam l behind in
-      rw (here, there) (line-read behind)
+      rw (p.bytes, p.after, sets-eq (line_of (n ∷ ns)) old at room)
+      (rw front at (line-at (take at old) (drop (at + length (line_of (n ∷ ns))) old)))
 
 -- a reply that was printed is read as a line of three numbers: code, value, count
 pub reply-read : (code value count : ℕ) {old new : List ℕ} {at next : ℕ} → Small (code ∷ value ∷ count ∷ [])
     → Room (line_of (code ∷ value ∷ count ∷ [])) old at → Put (line_of (code ∷ value ∷ count ∷ [])) old at new next
-    → line_read (drop at new) ≡ some (code ∷ value ∷ count ∷ [], drop next new)
+    → line_at new at ≡ record { count = 3; n = code ∷ value ∷ count ∷ replicate 29 0; next = next }
+unfolding followed as_numbers
 reply-read code value count small room p = put-line-read code (value ∷ count ∷ []) small (omega arith) room p

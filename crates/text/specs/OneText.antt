@@ -10,7 +10,7 @@ use Rattle.std.proofs.lemmas.Bool.{eqb-false, not-true}
 use Rattle.theory_lists.specs.Test.{every, both, both_left, both_right}
 use Rattle.text.specs.Number.{given, largest, is_digit, value_from, starts_well, number_of, decimal}
 use Rattle.text.specs.Digits.{decimal-one, decimal-more, length-one, length_more}
-use Rattle.text.specs.Value.{starts_one, starts_more}
+use Rattle.text.specs.Value.{starts-one, starts_more}
 
 is_digit_lem : (d : ℕ) → d < 10 → is_digit (48 + d) ≡ true
 unfolding is_digit
@@ -71,7 +71,7 @@ decimal-long n = (printed n).long
 decimal-starts : (n : ℕ) → starts_well (decimal n) ≡ true
 decimal-starts n =
     elim (dec_lt n 10) [
-      | yes s ↦ starts_one (decimal n) (omega (arith, length-one n s)) (omega (arith, length-one n s))
+      | yes s ↦ starts-one (decimal n) (length-one n s)
       | no s ↦
           (starts_more (decimal n) (omega (arith, length_more n (omega arith), decimal-long (n / 10)))
           ∙ ap not (ne_eqb (get_or (decimal n) 0 0) 48 ((printed n).first (omega arith))))

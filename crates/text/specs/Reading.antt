@@ -1,34 +1,43 @@
--- What the functions that read answer, in the words of Number and Line.
+-- What the functions that read answer: the definitions of Number and Line as the code's own structs.
 -- Assumes nothing.
-use Rattle.std.specs.Prelude.{◌&&◌, List, map, ℕ, ◌+◌, leb, length, drop, Some, None}
-use Rattle.std.specs.Prelude.{Option as Found}
+use Rattle.std.specs.Prelude.{cond, List, ◌++◌, map, ℕ, ◌+◌, ◌-◌, ◌*◌, min, leb, length, drop, replicate}
 use Rattle.std.proofs.Math.Option.{Option, none, some}
 use Rattle.theory_lists.specs.Test.{every}
 use Rattle.text.specs.Number.{given, largest, is_digit, value_from}
 use Rattle.text.specs.Line.{first_line, line_numbers}
+use Rattle.text.specs.Shapes.{Number, Is, No, Numbers, Line}
 
--- an option as the code has it
-unfoldable pub as_option : {A : Type 0} → Option A → Found A
-as_option none = None
-as_option (some a) = Some a
+unfoldable pub as_number : Option ℕ → Number
+as_number none = No
+as_number (some n) = Is n
 
--- the number that a value is with the digits w behind it
-unfoldable pub number_from : ℕ → List ℕ → Option ℕ
-number_from v w = given (every (map is_digit w) && leb (value_from v w) largest) (value_from v w)
+unfoldable pub no_numbers : Numbers
+no_numbers = record { count = 0; n = replicate 32 0 }
 
--- no more numbers than 32
-unfoldable pub few : Option (List ℕ) → Option (List ℕ)
-few none = none
-few (some ns) = given (leb (length ns) 32) ns
+unfoldable pub as_numbers : Option (List ℕ) → Numbers
+as_numbers none = no_numbers
+as_numbers (some ns) = cond (leb (length ns) 32) (record { count = length ns; n = ns ++ replicate (32 - length ns) 0 }) no_numbers
 
-unfoldable pub with_rest : Option (List ℕ) → List ℕ → Option (List ℕ × List ℕ)
-with_rest none text = none
-with_rest (some ns) text = some (ns, text)
+unfoldable pub followed : Numbers → ℕ → Line
+followed all next = record { count = all.count; n = all.n; next = next }
 
-unfoldable pub line_found : List ℕ → Option (List ℕ) → Option (List ℕ × List ℕ)
-line_found text none = none
-line_found text (some l) = with_rest (few (line_numbers l)) (drop (length l + 1) text)
+unfoldable pub line_found : ℕ → Option (List ℕ) → Line
+line_found at none = followed no_numbers 0
+line_found at (some l) = followed (as_numbers (line_numbers l)) (at + length l + 1)
 
--- the numbers of a text's first line, and the text behind its LF; none if no LF ends it, it is malformed, or it has more numbers than 32
-unfoldable pub line_read : List ℕ → Option (List ℕ × List ℕ)
-line_read text = line_found text (first_line text)
+-- the line at a place of a text, and the place of the next
+unfoldable pub line_at : List ℕ → ℕ → Line
+line_at text at = line_found at (first_line (drop at text))
+
+-- ---- a value that stays at one past the largest number, where it is larger or some byte is no digit
+abbrev pub past : ℕ
+past = 4294967296
+
+unfoldable pub grown_by : ℕ → ℕ → ℕ
+grown_by v b = cond (is_digit b) (min (v * 10 + (b - 48)) past) past
+
+unfoldable pub capped : ℕ → List ℕ → ℕ
+capped v w = cond (every (map is_digit w)) (min (value_from v w) past) past
+
+unfoldable pub within : ℕ → Option ℕ
+within v = given (leb v largest) v

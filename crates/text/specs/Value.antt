@@ -1,72 +1,85 @@
--- Laws on a number that is read digit by digit.
+-- Laws on a value that grows digit by digit and stays at one past the largest number.
 -- Assumes nothing.
-use Rattle.std.specs.Prelude.{◌≡◌, refl, Some, None, Bool, true, false, not, ◌&&◌, List, [], ◌∷◌, map, ℕ, suc, ◌+◌, ◌-◌, ◌*◌, ◌≤◌, ◌<◌, eqb, length, get_or, drop}
-use Rattle.std.proofs.Common.{add-one, arith, drop_of_length-le, drop-cons, le-leb}
-use Rattle.std.proofs.Math.Option.{none, some}
+use Rattle.std.specs.Prelude.{◌≡◌, refl, Bool, true, false, not, cond, ◌&&◌, List, [], ◌∷◌, map, ℕ, suc, ◌+◌, ◌-◌, ◌*◌, ◌≤◌, ◌<◌, min, leb, eqb, length, get_or, drop}
+use Rattle.std.proofs.Common.{sym, add-one, arith, drop_of_length-le, drop-cons}
+use Rattle.std.proofs.Math.Option.{none}
+use Rattle.std.proofs.Math.Decide.{dec_le}
 use Rattle.std.proofs.lemmas.Bool.{lt-leb}
 use Rattle.theory_lists.specs.Test.{every}
 use Rattle.text.specs.Number.{given, largest, is_digit, value_from, starts_well, number_of}
-use Rattle.text.specs.Reading.{as_option, number_from}
+use Rattle.text.specs.Reading.{past, grown_by, capped, within}
 
 pub value_grows : (v : ℕ) (w : List ℕ) → v ≤ value_from v w
 unfolding value_from
 value_grows v [] = omega arith
 value_grows v (b ∷ bs) = omega (arith, value_grows (v * 10 + (b - 48)) bs)
 
--- ---- a digit, as the code has it
-pub digit-some : (d : Bool) (x v : ℕ) → as_option (given d x) ≡ Some v → (d ≡ true) × (x ≡ v)
-unfolding as_option given
-digit-some true x v e = (refl, cc)
-digit-some false x v e = cc
+-- a value that was cut off at the limit ends at the limit all the same
+cut_off : (x : ℕ) (w : List ℕ) → min (value_from x w) past ≡ min (value_from (min x past) w) past
+cut_off x w =
+    elim (dec_le x past) [
+      | yes h ↦ (let e : min x past ≡ x = omega arith in rw e)
+      | no h ↦ omega (arith, value_grows x w, value_grows (min x past) w)
+    ]
 
-pub digit-none : (d : Bool) (x : ℕ) → as_option (given d x) ≡ None → d ≡ false
-unfolding as_option given
-digit-none true x e = cc
-digit-none false x e = refl
+capped-cons : (v b : ℕ) (bs : List ℕ) → capped v (b ∷ bs) ≡ capped (grown_by v b) bs
+unfolding capped grown_by value_from every
+capped-cons v b bs = go (is_digit b) (every (map is_digit bs))
+  where
+    go : (d e : Bool) → cond (d && e) (min (value_from (v * 10 + (b - 48)) bs) past) past
+        ≡ cond e (min (value_from (cond d (min (v * 10 + (b - 48)) past) past) bs) past) past
+    go true true = cut_off (v * 10 + (b - 48)) bs
+    go true false = refl
+    go false true = omega (arith, value_grows past bs)
+    go false false = refl
 
--- ---- as a loop finds it
-module _ (v : ℕ) (w : List ℕ) (i : ℕ) (inside : i < length w) where
-  pub number-turn : is_digit (get_or w i 0) ≡ true → number_from v (drop i w) ≡ number_from (v * 10 + (get_or w i 0 - 48)) (drop (i + 1) w)
-  unfolding number_from value_from every
-  number-turn e = rw (add-one, drop-cons w i 0 inside, e)
+-- as a loop finds it
+pub capped-turn : (v : ℕ) (w : List ℕ) (i : ℕ) → i < length w → capped v (drop i w) ≡ capped (grown_by v (get_or w i 0)) (drop (i + 1) w)
+capped-turn v w i h = rw (add-one, drop-cons w i 0 h) (capped-cons v (get_or w i 0) (drop (suc i) w))
 
-  pub number-no_digit : is_digit (get_or w i 0) ≡ false → number_from v (drop i w) ≡ none
-  unfolding number_from every given
-  number-no_digit e = rw (drop-cons w i 0 inside, e)
+pub capped-end : (v : ℕ) (w : List ℕ) (i : ℕ) → length w ≤ i → v ≤ past → capped v (drop i w) ≡ v
+unfolding capped value_from every
+capped-end v w i h k = rw (drop_of_length-le w h) (omega arith)
 
-  pub number-large : largest < v * 10 + (get_or w i 0 - 48) → number_from v (drop i w) ≡ none
-  unfolding number_from value_from every given
-  number-large h =
-      let x = value_from (v * 10 + (get_or w i 0 - 48)) (drop (suc i) w) in
-      rw (drop-cons w i 0 inside, lt-leb x largest (omega (arith, value_grows (v * 10 + (get_or w i 0 - 48)) (drop (suc i) w))))
-      (no (is_digit (get_or w i 0) && every (map is_digit (drop (suc i) w))) x)
-    where
-      no : (d : Bool) (x : ℕ) → given (d && false) x ≡ none
-      no true x = refl
-      no false x = refl
+pub grown-le : (v b : ℕ) → grown_by v b ≤ past
+unfolding grown_by
+grown-le v b = go (is_digit b)
+  where
+    go : (d : Bool) → cond d (min (v * 10 + (b - 48)) past) past ≤ past
+    go true = omega arith
+    go false = omega arith
 
-pub number-end : (v : ℕ) (w : List ℕ) (i : ℕ) → length w ≤ i → v ≤ largest → number_from v (drop i w) ≡ some v
-unfolding number_from value_from every given
-number-end v w i h k = rw (drop_of_length-le w h, le-leb v largest k)
+-- ---- what a number is, by its capped value
+within-capped : (w : List ℕ) → within (capped 0 w) ≡ given (every (map is_digit w) && leb (value_from 0 w) largest) (value_from 0 w)
+unfolding within capped given
+within-capped w = go (every (map is_digit w)) (value_from 0 w)
+  where
+    go : (d : Bool) (x : ℕ) → within (cond d (min x past) past) ≡ given (d && leb x largest) x
+    go false x = refl
+    go true x =
+        elim (dec_le x largest) [
+          | yes h ↦ (let e : min x past ≡ x = omega arith in rw e)
+          | no h ↦ (let e : min x past ≡ past = omega arith in rw (e, lt-leb x largest (omega arith)))
+        ]
 
-pub number-well : (w : List ℕ) → starts_well w ≡ true → number_of w ≡ number_from 0 w
-unfolding number_of number_from
-number-well w e = rw e
+pub number-well : (w : List ℕ) → starts_well w ≡ true → number_of w ≡ within (capped 0 w)
+unfolding number_of
+number-well w e = rw e (sym (within-capped w))
 
 pub number-not : (w : List ℕ) → starts_well w ≡ false → number_of w ≡ none
 unfolding number_of given
 number-not w e = rw e
 
-pub starts_none : (w : List ℕ) → length w < 1 → starts_well w ≡ false
+pub starts_none : (w : List ℕ) → length w ≡ 0 → starts_well w ≡ false
 unfolding starts_well
 starts_none [] e = refl
 starts_none (b ∷ bs) e = absurd (omega arith)
 
-pub starts_one : (w : List ℕ) → 1 ≤ length w → length w < 2 → starts_well w ≡ true
+pub starts-one : (w : List ℕ) → length w ≡ 1 → starts_well w ≡ true
 unfolding starts_well
-starts_one [] h e = absurd (omega arith)
-starts_one (b ∷ []) h e = refl
-starts_one (b ∷ c ∷ bs) h e = absurd (omega arith)
+starts-one [] e = absurd (omega arith)
+starts-one (b ∷ []) e = refl
+starts-one (b ∷ c ∷ bs) e = absurd (omega arith)
 
 pub starts_more : (w : List ℕ) → 1 < length w → starts_well w ≡ not (eqb (get_or w 0 0) 48)
 unfolding starts_well

@@ -4,7 +4,7 @@ ghost use Rattle.std.specs.Prelude.{◌≡◌, ◌==◌, ◌+◌, ◌-◌, ◌*�
 ghost use Rattle.std.proofs.Math.Option.{none, some};
 ghost use Rattle.text.specs.Number.{given, largest, is_digit, starts_well, number_of};
 ghost use Rattle.text.specs.Line.{line_numbers};
-ghost use Rattle.text.specs.Reading.{as_option, few, line_read};
+ghost use Rattle.text.specs.Front.{as_option, few, front_line};
 
 use std::marker::Model;
 
@@ -56,13 +56,12 @@ impl Numbers {
     }
 }
 
-// The numbers of the text's first line, and the text behind it.
-pub fn read_line(text: &[u8]) -> Option<(Numbers, &[u8])>
-    ensures { MatchOption result (line_read text.now ≡ none) (λ l. line_read text.now ≡ some (l.0, l.1.now)) }
+// The numbers of the text's first line, and the text behind it. None where no LF ends it; no numbers where it is malformed or has more than fit.
+pub fn read_line(text: &[u8]) -> Option<(Option<Numbers>, &[u8])>
+    ensures { MatchOption result (front_line text.now ≡ none) (λ l. front_line text.now ≡ some (l.0, l.1.now)) }
 {
     let end = find(text, b'\n')?;
-    let numbers = read_numbers(&text[..end])?;
-    Some((numbers, &text[end + 1..]))
+    Some((read_numbers(&text[..end]), &text[end + 1..]))
 }
 
 // The first place that has b.
@@ -109,7 +108,7 @@ fn grown(value: u32, last: u32) -> Option<u32>
 }
 
 // Whether there is a byte, and no leading zero.
-#[tactic(auto, using(crate::specs::Value::starts_none, crate::specs::Value::starts_one, crate::specs::Value::starts_more))]
+#[tactic(auto, using(crate::specs::DigitTurns::empty_starts, crate::specs::DigitTurns::single_starts, crate::specs::Value::starts_more))]
 fn starts_well(word: &[u8]) -> bool
     ensures { result ≡ starts_well word.now }
 {
@@ -120,7 +119,7 @@ fn starts_well(word: &[u8]) -> bool
     }
 }
 
-#[tactic(auto, unfolding(crate::specs::Reading::as_option, crate::specs::Number::given, crate::specs::Number::is_digit))]
+#[tactic(auto, unfolding(crate::specs::Front::as_option, crate::specs::Number::given, crate::specs::Number::is_digit))]
 fn digit(b: u8) -> Option<u32>
     ensures { result ≡ as_option (given (is_digit b) (b - 48)) }
 {

@@ -2,8 +2,9 @@
 use Rattle.std.proofs.Common.{◌≡◌, ◌≤◌, ℕ, suc, List, [], ◌∷◌, ◌++◌, length, refl, sym, ap, ◌∙◌, Fits, w32, rules, arith, add-one, append_assoc}
 use Rattle.text.specs.Line.{line_of}
 use Rattle.text.specs.OneLine.{length-line}
-use Rattle.text.specs.Lines.{line-known}
-use Rattle.text.specs.Walk.{run-bad, run-event, run_end}
+use Rattle.text.specs.Lines.Front.{front-known}
+use Rattle.text.specs.Walk.{run_end}
+use Rattle.text.specs.FrontWalk.{ran-bad, ran-front}
 use Rattle.text_print.specs.Page.{prints_none, prints_both}
 use Rattle.table.proofs.Kept.{event-sound}
 use Rattle.table.specs.Room.{event-room}
@@ -43,7 +44,7 @@ returns-in_err-e c =
     (record {
       done = i.done;
       prints = i.prints;
-      answers = i.answers ∙ ap (λ (l : List ℕ). i.done ++ l) (run-bad set_up event rest c.loop-rest.table n more bad.0);
+      answers = i.answers ∙ ap (λ (l : List ℕ). i.done ++ l) (ran-bad set_up event rest c.loop-rest.table n more bad.0);
       room = omega (arith, i.room, short);
     })
 
@@ -54,14 +55,14 @@ short x code value count = length-line x.code (x.value ∷ x.count ∷ []) (omeg
 pub put_line-requires : goal.put_line-requires
 put_line-requires c =
     let i = c.loop-rest.invariant in
-    let x = c.next-done.result.reply in
+    let x = c.step-reply.result in
     let line = short x (search rules) (search rules) (search rules) in
     omega (arith, i.room, line, length-kept i.prints, c.requires.blank.large)
 
 pub loop-rest-smaller : goal.loop-rest-smaller
 loop-rest-smaller c =
     let read = c.in_ok-e.ensures in
-    omega (arith, (line-known c.loop-rest.rest.now read.0 c.in_ok-e.behind.now read.1).after, read.2)
+    omega (arith, (front-known c.loop-rest.rest.now read.0 c.in_ok-e.behind.now read.1).after, read.2)
 
 pub loop-rest-preserved : goal.loop-rest-preserved
 loop-rest-preserved c =
@@ -69,23 +70,24 @@ loop-rest-preserved c =
     let rest = c.loop-rest.rest.now in
     let table = c.loop-rest.table in
     let n = c.loop-rest.n in
-    let x = c.next-done.result in
-    let text = line_of (x.reply.code ∷ x.reply.value ∷ x.reply.count ∷ []) in
+    let x = c.step-reply.result in
+    let after = c.step-reply.new.t in
+    let text = line_of (x.code ∷ x.value ∷ x.count ∷ []) in
     let read = c.in_ok-e.ensures in
-    let after = (line-known rest read.0 c.in_ok-e.behind.now read.1).after in
-    let line = short x.reply (search rules) (search rules) (search rules) in
-    let left : List ℕ = run set_up event x.after (suc n) (lines_of c.in_ok-e.behind.now) in
+    let known = (front-known rest read.0 c.in_ok-e.behind.now read.1).after in
+    let line = short x (search rules) (search rules) (search rules) in
+    let left : List ℕ = run set_up event after (suc n) (lines_of c.in_ok-e.behind.now) in
     let turn : run set_up event table n (lines_of rest) ≡ text ++ left =
-    run-event set_up event rest read.1 table n read.2
-    ∙ ap (λ (y : List ℕ × Table). line_of y.0 ++ run set_up event y.1 (suc n) (lines_of c.in_ok-e.behind.now)) (outcome-is table read.0 c.in_ok-e.e x read.3 c.next-done.ensures) in
+    ran-front set_up event rest read.1 table n read.2
+    ∙ ap (λ (y : List ℕ × Table). line_of y.0 ++ run set_up event y.1 (suc n) (lines_of c.in_ok-e.behind.now)) (outcome-is table read.0 c.in_ok-e.e x after read.3 c.step-reply.ensures.0 c.step-reply.ensures.1) in
     record {
       done = i.done ++ text;
       prints = prints_both i.prints c.put_line.ensures;
       answers = rw (add-one n) (i.answers ∙ ap (λ (l : List ℕ). i.done ++ l) turn ∙ sym (append_assoc i.done text left));
-      room = omega (arith, i.room, c.put_line.ensures.put.after, line, after, read.2);
-      count = omega (arith, i.count, after, read.2);
-      sound = rw c.next-done.ensures (event-sound table _ i.sized i.sound);
-      sized = rw c.next-done.ensures (event-room table _ i.sized);
+      room = omega (arith, i.room, c.put_line.ensures.put.after, line, known, read.2);
+      count = omega (arith, i.count, known, read.2);
+      sound = rw c.step-reply.ensures.1 (event-sound table _ i.sized i.sound);
+      sized = rw c.step-reply.ensures.1 (event-room table _ i.sized);
     }
 
 pub returns : goal.returns
@@ -93,5 +95,5 @@ unfolding ending
 returns c =
     let i = c.loop-rest.invariant in
     let rest = c.loop-rest.rest.now in
-    let end = run_end set_up event rest c.loop-rest.table c.loop-rest.n (none-left rest c.is_empty.result c.is_empty.ensures c.loop-rest-test.false) in
+    let end = run_end set_up event rest 0 c.loop-rest.table c.loop-rest.n (omega (arith, none-left rest c.is_empty.result c.is_empty.ensures c.loop-rest-test.false)) in
     record { done = i.done; prints = i.prints; answers = i.answers ∙ ap (λ (l : List ℕ). i.done ++ l) end; room = omega (arith, i.room) }

@@ -1,15 +1,16 @@
 -- A number starts well; then each digit is one, and the value stays within the bound.
 -- Assumes nothing.
 use Rattle.std.proofs.Common.{◌≡◌, ◌∙◌, ◌+◌, ◌-◌, ◌*◌, refl, sym, arith, get_or}
-use Rattle.text.specs.Value.{digit-some, digit-none, number-turn, number-no_digit, number-large, number-end, number-well, number-not}
-use Rattle.text.specs.Row.{is-none, is-some}
+use Rattle.text.specs.Value.{number-not}
+use Rattle.text.specs.DigitTurns.{digit-some, digit-none, number-turn, number-no_digit, number-large, number-end, number-begun}
+use Rattle.text.specs.WordTurns.{is-none, is-some}
 use Rattle.text.proofs.read_number.Goals as goal
 
 pub returns-then-not-starts_well : goal.returns-then-not-starts_well
 returns-then-not-starts_well c = is-none (number-not c.args.word.now (cc)) refl
 
 pub loop-b-init : goal.loop-b-init
-loop-b-init c = record { within = omega arith; so_far = number-well c.args.word.now (cc) }
+loop-b-init c = record { within = omega arith; so_far = number-begun c.args.word.now (cc) }
 
 pub returns-in_err-last : goal.returns-in_err-last
 returns-in_err-last c =

@@ -2,7 +2,7 @@
 -- Assumes nothing.
 use Rattle.std.proofs.Common.{◌≡◌, ◌≤◌, drop}
 use Rattle.text.specs.Number.{largest, number_of}
-use Rattle.text.specs.Reading.{number_from}
+use Rattle.text.specs.Front.{number_from}
 use Rattle.text.proofs.read_number.Given as goal
 
 abbrev pub invariant-loop-b : goal.invariant-loop-b

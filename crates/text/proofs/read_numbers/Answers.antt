@@ -4,8 +4,9 @@ use Rattle.std.proofs.Common.{◌∙◌, eqb, length, refl, sym, ap, rules, test
 use Rattle.std.proofs.lemmas.Iterator.Consumers.{YieldsList-turn, YieldsList-end}
 use Rattle.std.proofs.lemmas.Iterator.Splits.{YieldsList-from_slice_split}
 use Rattle.std.proofs.lemmas.List.{length_push}
-use Rattle.text.specs.Reading.{few}
-use Rattle.text.specs.Row.{option-some, option-none, is-none, is-some, words, word-here, row-start, row-none, row-turn, row-full, row-end, line-short, line-far}
+use Rattle.text.specs.Front.{few}
+use Rattle.text.specs.Row.{line-short, line-far}
+use Rattle.text.specs.WordTurns.{option-some, option-none, is-none, is-some, words, word-here, words-start, word-none, word-turn, word-over, words-end}
 use Rattle.text.proofs.read_numbers.Goals as goal
 
 pub returns-then-line-gt400 : goal.returns-then-line-gt400
@@ -13,7 +14,7 @@ unfolding few
 returns-then-line-gt400 c = is-none (ap few (line-far c.args.line.now c.if-line-gt400.true)) refl
 
 pub loop-word-init : goal.loop-word-init
-loop-word-init c = record { room = omega (arith, ap length c.new-numbers.ensures); so_far = rw c.new-numbers.ensures (row-start c.args.line.now) }
+loop-word-init c = record { room = omega (arith, ap length c.new-numbers.ensures); so_far = rw c.new-numbers.ensures (words-start c.args.line.now) }
 
 pub returns-in_err-read_number : goal.returns-in_err-read_number
 unfolding few
@@ -23,7 +24,7 @@ returns-in_err-read_number c =
     c.loop-word.yielded _ c.loop-word.yielded_by _ _ c.in-Some.word c.in-Some.is c.next.ensures.steps in
     let none = option-none _ (sym c.read_number.ensures ∙ c.in_err-read_number.was) in
     is-none
-    (ap few (line-short l c.if-line-gt400.false ∙ row-none l _ _ c.loop-word.invariant.so_far _ _ (word-here _ _ _ t) none))
+    (ap few (line-short l c.if-line-gt400.false ∙ word-none l _ _ c.loop-word.invariant.so_far _ _ (word-here _ _ _ t) none))
     c.from_residual.ensures
 
 pub returns-in_err-push : goal.returns-in_err-push
@@ -33,7 +34,7 @@ returns-in_err-push c =
     c.loop-word.yielded _ c.loop-word.yielded_by _ _ c.in-Some.word c.in-Some.is c.next.ensures.steps in
     let some = option-some _ _ (sym c.read_number.ensures ∙ c.in_ok-read_number.was) in
     is-none
-    (ap few (line-short l c.if-line-gt400.false) ∙ row-full l _ _ c.loop-word.invariant.so_far _ _ (word-here _ _ _ t) _ some c.in_err-push.ensures)
+    (ap few (line-short l c.if-line-gt400.false) ∙ word-over l _ _ c.loop-word.invariant.so_far _ _ (word-here _ _ _ t) _ some c.in_err-push.ensures)
     c.from_residual-in_err-push.ensures
 
 pub loop-word-preserved : goal.loop-word-preserved
@@ -45,7 +46,7 @@ loop-word-preserved c =
     record {
       room = c.in_ok-push.ensures.1;
       so_far = rw (c.in_ok-push.ensures.0, length_push c.loop-word.yielded c.in-Some.word)
-          (row-turn l _ _ c.loop-word.invariant.so_far _ _ (word-here _ _ _ t) _ some);
+          (word-turn l _ _ c.loop-word.invariant.so_far _ _ (word-here _ _ _ t) _ some);
     }
 
 pub returns : goal.returns
@@ -55,4 +56,4 @@ returns c =
     c.loop-word.yielded _ c.loop-word.yielded_by _ _ c.in-None.is c.next.ensures.steps in
     is-some _
     (ap few (line-short l c.if-line-gt400.false)
-    ∙ row-end l _ _ c.loop-word.invariant.so_far (drop_of_length-le (words l) (omega (arith, e.1))) c.loop-word.invariant.room)
+    ∙ words-end l _ _ c.loop-word.invariant.so_far (drop_of_length-le (words l) (omega (arith, e.1))) c.loop-word.invariant.room)

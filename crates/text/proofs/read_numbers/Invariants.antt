@@ -2,7 +2,8 @@
 -- Assumes nothing.
 use Rattle.std.proofs.Common.{◌≡◌, ◌≤◌, length, drop}
 use Rattle.text.specs.Line.{all_numbers, numbers_of}
-use Rattle.text.specs.Row.{behind, words}
+use Rattle.text.specs.Row.{behind}
+use Rattle.text.specs.WordTurns.{words}
 use Rattle.text.proofs.read_numbers.Given as goal
 
 abbrev pub invariant-loop-word : goal.invariant-loop-word
