@@ -1,5 +1,6 @@
 #![tactic(auto)]
-// What C and Rust link: each entry point of `cwmorlais`, exported under its name with its clauses. Each only hands on what it is given.
+// What C and Rust link: each entry point of `cwmorlais`, exported under its name with its clauses. Each only hands on what it is given. (They stand twice,
+// since a crate is a library or what C links, and not both.)
 ghost use Rattle.std.specs.Prelude.{◌≡◌};
 ghost use Rattle.desk.specs.Rules.{answer_of, event_rule, serve_rule, bring_rule};
 ghost use Rattle.desk.specs.Start.{start_rule};

@@ -13,6 +13,7 @@ use desk_sums::rows::row_sum;
 use desk_sums::{Sum, record_fits, row_count};
 use theory_refusals::Refusal;
 
+// (The same first line in all three: as `sound(v)?` it was no shorter, and soundness would have to be told as a Result.)
 #[tactic(auto, unfolding(desk::specs::Rules::event_lines, theory_refusals::specs::Refusals::first_of))]
 pub fn event_allowed(v: &Record, e: Event) -> Result<(), Refusal>
     ensures { code_of result ≡ event_refusal v.now e }

@@ -1,5 +1,6 @@
 #![tactic(auto)]
-// A desk's three steps where its record lies: a step names the cells that it touches, and nothing large is copied.
+// A desk's three steps where its record lies: a step names the cells that it touches, and nothing large is copied. (Some have namesakes in `table_step`. What
+// they share is `desk_acts`'; the rest differs in more than a type: here a message comes and an answer goes, there both are slots.)
 ghost use Rattle.std.specs.Prelude.{◌≡◌, ◌≤◌};
 ghost use Rattle.desk.specs.InPlace.{lost_in, loss_in};
 ghost use Rattle.desk.specs.Rules.{answer_of, event_refusal, event_done, event_rule, serve_refusal, serve_done, serve_rule};

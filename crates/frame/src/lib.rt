@@ -26,7 +26,7 @@ pub struct Written {
     pub used: usize,
 }
 
-// What reading and writing refuse alike.
+// What reading and writing refuse alike. (Four bytes and no `Message`: reading has none yet.)
 #[tactic(auto, unfolding(crate::specs::Frame::fault_lines, theory_refusals::specs::Refusals::first_of))]
 pub fn fault(kind: u8, desks: u8, desk: u8, cell: u8) -> Result<(), Refusal>
     ensures { code_of result ≡ fault_of kind desks desk cell }

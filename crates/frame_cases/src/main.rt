@@ -11,7 +11,7 @@ use std::io::Write;
 use std::{array, io};
 use whole_input::read_all;
 
-// A case as far as its line has been read.
+// A case as far as its line has been read: fixed arrays, and how much of them is used, since the project has no heap.
 #[derive(Clone, Copy)]
 struct Case {
     asks: Asks,

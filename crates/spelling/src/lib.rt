@@ -3,7 +3,7 @@
 ghost use Rattle.std.specs.Prelude.{◌≡◌, ℕ, ◌+◌, ◌*◌, ◌≤◌, length, take, drop, replicate};
 ghost use Rattle.spelling.specs.Bytes.{numeral, bytes, spell, put};
 
-// How a number stands in a row of bytes: a u16 in two, a u32 in four.
+// How a number stands in a row of bytes: a u16 in two, a u32 in four. (At a place and not in a part of its own: a frame's layout is places of one output.)
 pub trait Spelled {
     ghost width: { ℕ };
 

@@ -37,7 +37,7 @@ pub fn made(plan: Plan) -> Result<Table, Refusal>
     Ok(table)
 }
 
-// Each cell is held by its keeper, blank.
+// Each cell is held by its keeper, blank. (Not one loop with the record's: a shared one over a row took a start 100 ns for 70, and a set-up 490 for 174.)
 #[tactic(auto, unfolding(table::specs::SetUp::no_table, desk::specs::Start::no_tray))]
 fn fresh(t: &mut Table, x: Tray)
     requires { Housed x }

@@ -21,7 +21,8 @@ use table::Table;
 use table_sound::sound;
 use theory_refusals::Refusal;
 
-// Desk d loses its copies strictly before a clock that it learns; how many.
+// Desk d loses its copies strictly before a clock that it learns; how many. (This and what follows has an index of a desk's number and of a cell, and asks
+// for their bounds: soundness gives them, and a type that carried them would have to be made, with the same proofs, at each call.)
 fn lose(t: &mut Table, d: usize, learnt: Clock) -> u32
     requires { (d < 8) × (t.old.tray.counts.cells ≤ 32) }
     ensures { (result ≡ lost_count t.old d learnt) × (t.new ≡ lost_of t.old d learnt) }
