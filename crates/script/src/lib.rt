@@ -67,7 +67,8 @@ fn follow(text: &[u8], page: &mut Page) -> Result<(), Stop>
 
 // The table that lines 1 and 2 set up, and the text behind them.
 fn begin(text: &[u8]) -> Result<(Table, &[u8]), Stop>
-    ensures { MatchResult result (λ r. Ready (begun set_up event (lines_of text.now)) text.now r.0 r.1.now) (EndsIn (begun set_up event (lines_of text.now))) }
+    ensures { MatchResult result (λ r. Ready (begun set_up event (lines_of text.now)) text.now r.0 r.1.now)
+        (EndsIn (begun set_up event (lines_of text.now))) }
 {
     let (counts, text) = line(text, 1)?;
     let [desks, cells] = *counts.as_slice() else {

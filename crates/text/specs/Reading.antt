@@ -1,4 +1,4 @@
--- What the functions that read answer: the definitions of Number and Line as the code's own structs.
+-- What a line at a place of a text is told as: the definitions of Number and Line in the shapes of Shapes. FrontAt says how what is read today tells it.
 -- Assumes nothing.
 use Rattle.std.specs.Prelude.{cond, List, ◌++◌, map, ℕ, ◌+◌, ◌-◌, ◌*◌, min, leb, length, drop, replicate}
 use Rattle.std.proofs.Math.Option.{Option, none, some}

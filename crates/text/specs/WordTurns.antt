@@ -37,7 +37,8 @@ unfolding pieces on_first
 pieces-split b [] = refl
 pieces-split b (x ∷ xs) = go (eqb x b) (before b xs) _ (pieces b xs) (slice_split (λ y. eqb y b) xs) (pieces-first b xs) (pieces-split b xs)
   where
-    go : (d : Bool) (w : List ℕ) (ws ps qs : List (List ℕ)) → ps ≡ w ∷ ws → ps ≡ qs → cond d ([] ∷ ps) (on_first x ps) ≡ cond d ([] ∷ qs) (onto_first x qs)
+    go : (d : Bool) (w : List ℕ) (ws ps qs : List (List ℕ)) → ps ≡ w ∷ ws → ps ≡ qs
+        → cond d ([] ∷ ps) (on_first x ps) ≡ cond d ([] ∷ qs) (onto_first x qs)
     go true w ws ps qs e f = ap (λ (l : List (List ℕ)). [] ∷ l) f
     go false w ws ps qs e f = rw (sym f, e) refl
 

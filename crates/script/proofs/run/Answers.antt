@@ -79,7 +79,8 @@ loop-rest-preserved c =
     let left : List ℕ = run set_up event after (suc n) (lines_of c.in_ok-e.behind.now) in
     let turn : run set_up event table n (lines_of rest) ≡ text ++ left =
     ran-front set_up event rest read.1 table n read.2
-    ∙ ap (λ (y : List ℕ × Table). line_of y.0 ++ run set_up event y.1 (suc n) (lines_of c.in_ok-e.behind.now)) (outcome-is table read.0 c.in_ok-e.e x after read.3 c.step-reply.ensures.0 c.step-reply.ensures.1) in
+    ∙ ap (λ (y : List ℕ × Table). line_of y.0 ++ run set_up event y.1 (suc n) (lines_of c.in_ok-e.behind.now))
+    (outcome-is table read.0 c.in_ok-e.e x after read.3 c.step-reply.ensures.0 c.step-reply.ensures.1) in
     record {
       done = i.done ++ text;
       prints = prints_both i.prints c.put_line.ensures;
@@ -95,5 +96,7 @@ unfolding ending
 returns c =
     let i = c.loop-rest.invariant in
     let rest = c.loop-rest.rest.now in
-    let end = run_end set_up event rest 0 c.loop-rest.table c.loop-rest.n (omega (arith, none-left rest c.is_empty.result c.is_empty.ensures c.loop-rest-test.false)) in
+    let end =
+    run_end set_up event rest 0 c.loop-rest.table c.loop-rest.n
+    (omega (arith, none-left rest c.is_empty.result c.is_empty.ensures c.loop-rest-test.false)) in
     record { done = i.done; prints = i.prints; answers = i.answers ∙ ap (λ (l : List ℕ). i.done ++ l) end; room = omega (arith, i.room) }
