@@ -1,4 +1,5 @@
--- Strictly before, found in one go: a pair of numbers gives the first bit for smaller and all bits for larger, and the or of all is the first bit alone.
+-- Strictly before, found in one go: a pair of numbers gives the first bit for smaller and all bits for larger, and the or of all is the first bit alone. (No code
+-- finds it so today: Causal has the code's form.)
 -- Assumes nothing.
 use Rattle.std.specs.Prelude.{◌≡◌, refl, Bool, true, not, ◌&&◌, ◌||◌, cond, ℕ, length}
 use Rattle.std.proofs.Math.Path.{ap}
@@ -78,7 +79,7 @@ module _ (a b : Clock) (la : length a.n ≡ 8) (lb : length b.n ≡ 8) where
       ∙ ap (λ (x : ℕ). eqb x 1) (all-flags false false a.n b.n)
       ∙ alone (some (paired ltb a.n b.n)) (every (paired leb a.n b.n))
 
-  -- as the code has it
+  -- as the code before the design pass had it
   pub before-eight : (p q r s t u v w : ℕ) → OrderAt a b 0 p → OrderAt a b 1 q → OrderAt a b 2 r → OrderAt a b 3 s → OrderAt a b 4 t
       → OrderAt a b 5 u → OrderAt a b 6 v → OrderAt a b 7 w
       → eqb (bit_or (bit_or (bit_or (bit_or (bit_or (bit_or (bit_or p q) r) s) t) u) v) w) 1 ≡ is_before a b

@@ -97,7 +97,7 @@ impl BitOr for Clock {
     }
 }
 
-// It also says what ZERO is.
+// By hand and no derive: its clause says what ZERO is, as a constant has none.
 impl Default for Clock {
     ghost is_default = { λ c. c ≡ zero_clock };
 

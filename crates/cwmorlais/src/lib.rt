@@ -11,7 +11,7 @@ use desk::{Answer, Event, Message, Plan, Record, Reply};
 use frame::{Reading, Written};
 use table::Table;
 
-// A desk's fresh record, in place of the one that is lent; a refusal leaves it all zero.
+// A desk's fresh record, in place of the one that is lent; a refusal leaves it all zero. (A code, for C.)
 pub fn cwmorlais_desk_start(v: &mut Record, plan: Plan, desk: u32) -> u32
     ensures { (result ≡ (start_rule plan desk).code) × (v.new ≡ (start_rule plan desk).«record») }
 {
@@ -53,7 +53,7 @@ pub fn cwmorlais_frame_write(m: &Message, out: &mut [u8]) -> Written
     frame_write::write(out, m)
 }
 
-// A fresh table, in place of the one that is lent; a refusal leaves it all zero.
+// A fresh table, in place of the one that is lent; a refusal leaves it all zero. (A code, for C.)
 pub fn cwmorlais_table_set_up(t: &mut Table, plan: Plan) -> u32
     ensures { (result ≡ (set_up_rule plan).code) × (t.new ≡ (set_up_rule plan).table) }
 {

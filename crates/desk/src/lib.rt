@@ -1,5 +1,6 @@
 #![tactic(auto)]
-// One desk: its record, what passes between desks, and whether a record is sound. What a desk does stands in the crates above.
+// One desk: its record, what passes between desks, and whether a tray is sound. What a desk does, and whether its record is sound, stands in the crates
+// above.
 ghost use Rattle.std.specs.Prelude.{◌≡◌};
 ghost use Rattle.desk.specs.Desk.{kept_by};
 
@@ -166,7 +167,7 @@ impl Message {
     };
 }
 
-// What a step gives: the reply, the message to send (all zero where there is none), and the record afterwards.
+// What a step gives: the reply, the message to send (all zero where there is none), and the record afterwards. (For the rules, which speak of it.)
 #[derive(Clone, Copy)]
 pub struct Step {
     pub reply: Reply,

@@ -1,12 +1,17 @@
 -- What an own event makes of the desk's seat and of the cell that it names, once for record and table.
 -- Assumes nothing.
-use Rattle.std.specs.Prelude.{Bool, cond, ℕ, eqb}
-use Rattle.clock.specs.Clock.{raised}
+use Rattle.std.specs.Prelude.{◌≡◌, Bool, cond, ℕ, eqb}
+use Rattle.clock.specs.declared.Clock.{Clock}
+use Rattle.clock.specs.Clock.{number, raised}
 use Rattle.desk.specs.declared.Cell.{Cell}
 use Rattle.desk.specs.declared.Event.{Event}
 use Rattle.desk.specs.declared.Seat.{Seat}
 use Rattle.desk.specs.Desk.{no_cell, held_cell}
 use Rattle.desk.specs.Parts.{change_of, asking_seat, raised_seat}
+
+-- a write has a number left to raise
+abbrev pub HasNumber : Event → Clock → ℕ → Type 0
+HasNumber e c desk = e.kind ≡ 2 → number c desk ≡ 4294967295 → ⊥
 
 unfoldable pub own_seat : Bool → Cell → Event → ℕ → Seat → Seat
 own_seat kept x e desk s =

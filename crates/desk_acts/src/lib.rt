@@ -1,5 +1,6 @@
 #![tactic(auto)]
-// What a desk's steps make of a seat and of a cell, by value. Record and table are thin functions over these.
+// What a desk's steps make of a seat and of a cell: by value, and an own event, a store and a sweep where they lie. Record and table are thin functions
+// over these.
 ghost use Rattle.std.specs.Prelude.{◌≡◌, ◌+◌, ◌*◌, ◌<◌, eqb};
 ghost use Rattle.clock.specs.Clock.{number, raised};
 ghost use Rattle.desk.specs.Desk.{held_cell, answer_kind};
@@ -7,7 +8,7 @@ ghost use Rattle.desk.specs.Parts.{change_of, asked_for, asking_seat, raised_sea
 ghost use Rattle.desk.specs.Parts.{refused_answer, asked_message, served_answer, brought_answer};
 ghost use Rattle.desk.specs.Rules.{shown_code, refused_reply, place_lines};
 ghost use Rattle.desk_acts.specs.Change.{change_number, code_number};
-ghost use Rattle.desk_acts.specs.Own.{own_seat, own_cell};
+ghost use Rattle.desk_acts.specs.Own.{HasNumber, own_seat, own_cell};
 ghost use Rattle.theory_refusals.specs.Numbers.{code_of};
 ghost use Rattle.theory_refusals.specs.Refusals.{first_of};
 
@@ -80,7 +81,7 @@ pub fn change_of(kept: bool, x: Cell, e: Event) -> Change
     }
 }
 
-// The reply to it.
+// The reply to an own event.
 #[tactic(auto, unfolding(desk::specs::Parts::own_reply))]
 pub fn own_reply(kept: bool, x: Cell, e: Event) -> Reply
     ensures { result ≡ own_reply kept x e }
@@ -126,10 +127,11 @@ fn next(clock: Clock, desk: usize) -> Clock
 // The request of a read or a write.
 #[tactic(auto, unfolding(desk::specs::Parts::asked_for))]
 fn asked_for(s: Seat, desk: usize, e: Event) -> Slot
-    requires { (desk < 8) × (e.cell < 32) × (e.kind ≡ 2 → number s.clock desk ≡ 4294967295 → ⊥) × ((e.kind ≡ 1 → ⊥) → e.kind ≡ 2) }
+    requires { (desk < 8) × (e.cell < 32) × HasNumber e s.clock desk × ((e.kind ≡ 1 → ⊥) → e.kind ≡ 2) }
     ensures { result ≡ asked_for s desk e }
 {
     let cell = e.cell as u8;
+    // (An if: one kind against the rest, of which a match would say no more. So too where `desk_step`, `table_step` and the frames ask for one kind.)
     if e.kind == Act::Read as u32 {
         return Slot {
             kind: Kind::ReadAsked as u8,
@@ -148,7 +150,7 @@ fn asked_for(s: Seat, desk: usize, e: Event) -> Slot
 // The seat of a desk that asks. (What has a desk's number for an index asks for one below 8 here and in the crates above: C and lent memory have it as a plain
 // number, and a type of its own would have to be made from one, with this test, at each call.)
 fn asking(s: Seat, desk: usize, e: Event) -> Seat
-    requires { (desk < 8) × (e.cell < 32) × (e.kind ≡ 2 → number s.clock desk ≡ 4294967295 → ⊥) × ((e.kind ≡ 1 → ⊥) → e.kind ≡ 2) }
+    requires { (desk < 8) × (e.cell < 32) × HasNumber e s.clock desk × ((e.kind ≡ 1 → ⊥) → e.kind ≡ 2) }
     ensures { result ≡ asking_seat s desk e }
 {
     Seat {
@@ -187,10 +189,10 @@ pub fn store(seat: &mut Seat, cell: &mut Cell, s: Seat, word: u32)
     *cell = held(word, s.clock);
 }
 
-// What an own event makes of its desk's seat and of the named cell. Only what changes is stored, and the constant as one.
+// What an own event makes of its desk's seat and of the named cell. Only what changes is stored, and an empty cell as the constant.
 #[tactic(auto, unfolding(crate::specs::Own::own_seat, crate::specs::Own::own_cell, desk::specs::Parts::change_of))]
 pub fn own(seat: &mut Seat, cell: &mut Cell, kept: bool, desk: usize, e: Event) -> Reply
-    requires { (desk < 8) × (e.cell < 32) × (e.kind ≡ 2 → number seat.old.clock desk ≡ 4294967295 → ⊥) }
+    requires { (desk < 8) × (e.cell < 32) × HasNumber e seat.old.clock desk }
     ensures reply { result ≡ own_reply kept cell.old e }
     ensures seat { seat.new ≡ own_seat kept cell.old e desk seat.old }
     ensures cell { cell.new ≡ own_cell kept cell.old e desk seat.old }
@@ -216,7 +218,7 @@ pub fn took(s: Seat, sent: Clock) -> Seat
     }
 }
 
-// The kind of the answer to a request. A sum of numbers still, since its clause `answer_kind` holds of an empty slot's 0 too, which no Kind answers.
+// The kind of the answer to a request. By number, since its clause `answer_kind` holds of an empty slot's 0 too, which no Kind answers.
 pub fn answer_kind(asked: u8) -> u8
     requires { asked < 3 }
     ensures { result ≡ answer_kind asked }
@@ -295,7 +297,7 @@ pub fn unplaced(n: Counts, e: Event) -> Result<(), Refusal>
     Ok(())
 }
 
-// ---- answers
+// ---- answers. (A number again, as in `refused`.)
 pub fn refused_answer(code: u32) -> Answer
     ensures { result ≡ refused_answer code }
 {

@@ -11,7 +11,8 @@ use desk::sound::{keeps, waits};
 use desk::{Event, Seat, Slot, Tray};
 use theory_refusals::Refusal;
 
-// The first refusal from 11 on that applies, in the order of 01's table. For the desk's events and the table's.
+// The first refusal from 11 on that applies, in the order of 01's table. For the desk's events and the table's. (It asks for a desk and a cell count within
+// bounds: soundness has shown them, and what is lent has any numbers.)
 #[tactic(auto, unfolding(desk::specs::Rules::seat_lines, theory_refusals::specs::Refusals::first_of, desk::specs::Desk::is_own))]
 pub fn seat_refusal(t: Tray, desk: u8, s: Seat, e: Event) -> Result<(), Refusal>
     requires { (desk < 8) × (t.counts.cells ≤ 32) }

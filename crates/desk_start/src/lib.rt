@@ -15,7 +15,7 @@ const NO_RECORD: Record = Record {
     row: [Cell::NONE; 32],
 };
 
-// A desk's record for any plan and any number, in place of the one that is lent. It tells a code, since C calls it.
+// A desk's record for any plan and any number, in place of the one that is lent. (A code: `start_rule` has it, and `cwmorlais_desk_start` hands it to C.)
 pub fn start(v: &mut Record, plan: Plan, desk: u32) -> u32
     ensures { (result ≡ (start_rule plan desk).code) × (v.new ≡ (start_rule plan desk).«record») }
 {
@@ -31,7 +31,7 @@ pub fn start(v: &mut Record, plan: Plan, desk: u32) -> u32
     }
 }
 
-// The desk holds the cells that it keeps, blank.
+// The desk holds the cells that it keeps, blank. (It and `keepers_right` ask for the count's bound, which `check_plan` has shown: a plan has any number.)
 fn fresh(v: &mut Record, t: Tray, desk: u8)
     requires { t.counts.cells ≤ 32 }
     ensures { v.new ≡ fresh_record t desk }
@@ -41,7 +41,7 @@ fn fresh(v: &mut Record, t: Tray, desk: u8)
         desk,
         ..NO_RECORD
     };
-    // No `zip` with the row, as in `tray`.
+    // No `zip` of the row and the places: of `iter_mut().zip(..)` the proof knows no values.
     for (c, p) in t.places[..t.counts.cells as usize].iter().enumerate() {
         if p.kept_by(desk as usize) {
             v.row[c] = Cell::BLANK;
@@ -96,7 +96,7 @@ pub fn tray(plan: &Plan) -> Tray
 {
     let cells = plan.cells as usize;
     let mut places = [Place::NONE; 32];
-    // No `zip` with the places: of an adapter of `iter_mut` the proof knows no values.
+    // No `zip` of the places and the keepers, as in `fresh`.
     for (c, k) in plan.keepers[..cells].iter().enumerate() {
         places[c].keeper = *k as u8;
     }

@@ -25,7 +25,7 @@ fn lose(v: &mut Record, learnt: Clock) -> u32
 {
     // Read as a slice, the row shows the proof how long it is.
     let _row: &[Cell] = &v.row;
-    // A copy of the tray's few bytes: nothing of the record is read while its row is lent.
+    // A copy of the tray's few bytes: lent itself beside the row, it is in a form that the borrow check doesn't cover.
     let t = v.tray;
     let d = v.desk as usize;
     rows::lose(&mut v.row[..t.counts.cells as usize], &t, d, learnt)
@@ -79,7 +79,8 @@ fn receive(v: &mut Record, m: Message) -> Answer
     brought_answer(count, m)
 }
 
-// Kinds 1 Read, 2 Write and 5 Drop for this desk, whatever desk the event names.
+// Read, write and drop for this desk, whatever desk the event names. (This and the two below end alike: one function over them would take a check and a step
+// as closures, and be no shorter.)
 #[tactic(auto, unfolding(desk::specs::Rules::event_rule, theory_refusals::specs::Refusals::unless))]
 pub fn event(v: &mut Record, e: Event) -> Answer
     ensures { (result ≡ answer_of (event_rule v.old e)) × (v.new ≡ (event_rule v.old e).after) }

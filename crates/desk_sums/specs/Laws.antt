@@ -20,7 +20,7 @@ use Rattle.desk.specs.SoundLaws.{blank-is}
 use Rattle.desk_sums.specs.declared.Sum.{Sum}
 use Rattle.desk_sums.specs.Sums.{no_sum, joined, or_past, add_clock, noted, stamped, rest_of, add_kept, sum_fits, clock_fits, rest_fits, kept_fits}
 
--- ---- as the code has it
+-- ---- as the code before the design pass had it
 pub byte-is : (b : Bool) → bool_byte b ≡ one_if b
 byte-is true = refl
 byte-is false = refl

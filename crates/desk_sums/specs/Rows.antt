@@ -1,4 +1,4 @@
--- The sums that loops make, over any getter: a desk's row, and all seats. Each is soundness of what was walked over.
+-- The sums that loops make, over any function that gives the cell at a place: a desk's row, and all seats. Each is soundness of what was walked over.
 -- Assumes nothing.
 use Rattle.std.specs.Prelude.{◌≡◌, Bool, ◌&&◌, leb, length}
 use Rattle.std.proofs.Math.Path.{refl, ap}

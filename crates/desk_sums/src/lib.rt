@@ -1,6 +1,6 @@
 #![tactic(auto)]
 // Soundness as a running sum that is tested once: what each cell and each seat adds, and the test.
-// A walk over a table's or a record's entries calls these, each on small things by value.
+// Methods of a sum; `rows` goes through the cells.
 ghost use Rattle.std.specs.Prelude.{◌≡◌};
 ghost use Rattle.desk_sums.specs.Sums.{rest_of, add_kept, add_clock, noted, slot_bad, add_seat, add_seat_of, slot_cell, sum_fits};
 ghost use Rattle.desk_sums.specs.Sums.{used_by, record_fits, row_count};
@@ -84,6 +84,7 @@ impl Sum {
         ensures { result ≡ add_seat self there cells own v }
     {
         let slot = v.slot;
+        // (By number: the definition says it of any from a write asked on.)
         let full = there & (Kind::WriteAsked as u8 <= slot.kind) & !is_blank(slot.clock);
         self.clock(there, v.clock, 0)
             .clock(full, slot.clock, slot.word)

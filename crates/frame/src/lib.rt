@@ -31,7 +31,7 @@ pub struct Written {
 pub fn fault(kind: u8, desks: u8, desk: u8, cell: u8) -> Result<(), Refusal>
     ensures { code_of result ≡ fault_of kind desks desk cell }
 {
-    if !(1..=4).contains(&kind) {
+    if Kind::try_from(kind)? == Kind::Nothing {
         return Err(Refusal::FrameKind);
     }
     if !(2..=8).contains(&desks) {

@@ -11,7 +11,8 @@ use std::io::Write;
 use std::{array, io};
 use whole_input::read_all;
 
-// A case as far as its line has been read: fixed arrays, and how much of them is used, since the project has no heap.
+// A case as far as its line has been read: fixed arrays, and how much of them is used. (As a Vec and slices it would ask for an
+// allocator and answer a Result at each byte.)
 #[derive(Clone, Copy)]
 struct Case {
     asks: Asks,
@@ -85,6 +86,7 @@ fn with_hex(mut case: Case, b: u8) -> Case {
     case
 }
 
+// (By hand: `to_digit` would take A to F too.)
 fn digit(b: u8) -> Option<u8>
     ensures { IfSome result (λ d. d < 16) }
 {

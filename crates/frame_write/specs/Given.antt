@@ -1,4 +1,4 @@
--- The message that is given part by part.
+-- The message that is given part by part, as writing took it before the design pass.
 -- Assumes nothing.
 use Rattle.std.specs.Prelude.{ℕ}
 use Rattle.clock.specs.declared.Clock.{Clock}

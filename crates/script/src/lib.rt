@@ -1,5 +1,5 @@
 #![tactic(auto)]
-// What the script program answers, as a function from an input slice to an output slice.
+// What the script program answers, as a function from an input slice to an output array.
 ghost use Rattle.std.specs.Prelude.{Some, true, ◌∷◌, [], ◌≡◌, ◌+◌, ◌≤◌, ℕ, List, length, MatchResult};
 ghost use Rattle.std.proofs.Math.Option.{none, some};
 ghost use Rattle.table.specs.Room.{Room};
@@ -113,7 +113,7 @@ fn run(fresh: Table, text: &[u8], page: &mut Page) -> Result<(), Stop>
 {
     let mut table = fresh;
     let mut rest = text;
-    // the number of the line at the front of rest, which no slice or iterator carries
+    // the number of the line at the front of rest: `read_line` gives the rest of the text and no line, so that no iterator counts them
     let mut n: u32 = 3;
     while !rest.is_empty() {
         let (e, behind) = read_event(rest, n)?;
@@ -144,7 +144,8 @@ fn read_event(text: &[u8], n: u32) -> Result<(Event, &[u8]), Stop>
     Ok((e, rest))
 }
 
-// The numbers of line n, which stands at the front of the text, and the text behind it.
+// The numbers of line n, which stands at the front of the text, and the text behind it. (The two go together from here to `run`: as a struct they would be
+// taken apart in each.)
 fn line(text: &[u8], n: u32) -> Result<(Numbers, &[u8]), Stop>
     ensures { MatchResult result (λ r. front_line text.now ≡ some (Some r.0, r.1.now))
         (λ stop. ((k : ℕ) → k ≤ 32 → having k (first (lines_of text.now)) ≡ none) × (stop ≡ Stop.BadLine n)) }

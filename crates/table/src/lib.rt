@@ -20,7 +20,7 @@ impl Table {
     };
 }
 
-// What an event gives: the reply, and the table afterwards.
+// What an event gives: the reply, and the table afterwards. (For the rules, which speak of it.)
 #[derive(Clone, Copy)]
 pub struct Outcome {
     pub reply: Reply,

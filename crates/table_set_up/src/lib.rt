@@ -10,7 +10,7 @@ use desk_start::{check_plan, tray};
 use table::Table;
 use theory_refusals::Refusal;
 
-// A fresh table from any plan, in place of the one that is lent. It tells a code, since C calls it.
+// A fresh table from any plan, in place of the one that is lent. (A code: `set_up_rule` has it, and `cwmorlais_table_set_up` hands it to C.)
 pub fn set_up(t: &mut Table, plan: Plan) -> u32
     ensures { (result ≡ (set_up_rule plan).code) × (t.new ≡ (set_up_rule plan).table) }
 {

@@ -1,5 +1,5 @@
 #![tactic(auto)]
-// Whether a table is sound, where it lies: everything that must fit is laid into one sum, which is tested at the end.
+// Whether a table is sound, where it lies: what must fit is laid into two sums, one of the seats and one of the cells, each tested at its end.
 ghost use Rattle.std.specs.Prelude.{◌≡◌, ◌≤◌, length, get_or};
 ghost use Rattle.desk.specs.Desk.{cell_at, past_seat};
 ghost use Rattle.desk_sums.specs.Rows.{cells_sum, seats_sum};

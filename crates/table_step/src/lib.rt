@@ -1,8 +1,8 @@
 #![tactic(auto)]
 // The five events where the table lies: a step names the cells and seats that it touches, and nothing large is copied.
 ghost use Rattle.std.specs.Prelude.{true, ◌≡◌, ◌<◌, ◌≤◌};
-ghost use Rattle.clock.specs.Clock.{number};
 ghost use Rattle.theory_refusals.specs.Numbers.{code_of};
+ghost use Rattle.desk_acts.specs.Own.{HasNumber};
 ghost use Rattle.table.specs.Changes.{lost_of, lost_count};
 ghost use Rattle.table.specs.InPlace.{take_write_in, take_in, take_reply, bring_in, bring_reply, own_in, own_reply_in};
 ghost use Rattle.table.specs.Rows.{Sized};
@@ -31,9 +31,9 @@ fn lose(t: &mut Table, d: usize, learnt: Clock) -> u32
     rows::lose(&mut t.cells[d * 32..d * 32 + n], &t.tray, d, learnt)
 }
 
-// Kinds 1, 2 and 5, by what they change.
+// Read, write and drop, by what they change.
 fn own(t: &mut Table, d: usize, c: usize, e: Event) -> Reply
-    requires { (d < 8) × (c < 32) × (e.cell < 32) × (e.kind ≡ 2 → number (seat_of t.old d).clock d ≡ 4294967295 → ⊥) }
+    requires { (d < 8) × (c < 32) × (e.cell < 32) × HasNumber e (seat_of t.old d).clock d }
     ensures { (result ≡ own_reply_in t.old d c e) × (t.new ≡ own_in t.old d c e) }
 {
     let kept = t.tray.places[c].kept_by(d);

@@ -1,4 +1,4 @@
--- What the functions that print leave: a text put into a list at a place, and the place after it.
+-- What printing leaves: a text put into a list at a place, and the place after it. Of a page text_print's Page says the same.
 -- Assumes nothing.
 use Rattle.std.specs.Prelude.{◌≡◌, List, [], ◌∷◌, ◌++◌, ℕ, suc, ◌+◌, ◌≤◌, ◌<◌, length, get_or, take, set}
 use Rattle.std.proofs.Common.{sym, ap, ◌∙◌, append_assoc, add-one, arith, length-append, take-suc, length-take-le}

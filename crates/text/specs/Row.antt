@@ -76,7 +76,7 @@ pub line-far : (l : List ℕ) → 400 < length l → line_numbers l ≡ none
 unfolding line_numbers
 line-far l h = rw (lt-leb (length l) 400 h)
 
--- ---- as the loop finds them: k numbers stand at the start of n, zeros behind them, and the rest of the line from `from` on
+-- ---- as a loop over places finds them: k numbers stand at the start of n, zeros behind them, and the rest of the line from `from` on
 module _ (l n : List ℕ) (from k : ℕ) (full : length n ≡ 32) (so_far : numbers_of l ≡ behind (take k n) (numbers_of (drop from l))) where
   abbrev here : List ℕ
   here = drop from l

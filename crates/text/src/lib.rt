@@ -56,7 +56,8 @@ impl Numbers {
     }
 }
 
-// The numbers of the text's first line, and the text behind it. None where no LF ends it; no numbers where it is malformed or has more than fit.
+// The numbers of the text's first line, and the text behind it. None where no LF ends it; no numbers where it is malformed or has more than fit. (An Option in
+// an Option and no Result: what stands behind is told of a malformed line too.)
 pub fn read_line(text: &[u8]) -> Option<(Option<Numbers>, &[u8])>
     ensures { MatchOption result (front_line text.now ≡ none) (λ l. front_line text.now ≡ some (l.0, l.1.now)) }
 {
@@ -119,6 +120,7 @@ fn starts_well(word: &[u8]) -> bool
     }
 }
 
+// (By hand: the law of a digit is `is_digit` of the byte, and `to_digit` says its own.)
 #[tactic(auto, unfolding(crate::specs::Front::as_option, crate::specs::Number::given, crate::specs::Number::is_digit))]
 fn digit(b: u8) -> Option<u32>
     ensures { result ≡ as_option (given (is_digit b) (b - 48)) }

@@ -1,5 +1,5 @@
 #![tactic(auto)]
-// Replies, and the words that the script ends with, are printed on a page. Each method asks that the text fits: the script's page has room for
+// Replies, and the words that the script ends with, are printed on a page. Each method that prints asks that the text fits: the script's page has room for
 // all that an input can answer, so a refusal would never be seen.
 ghost use Rattle.std.specs.Prelude.{◌≡◌, ◌∷◌, []};
 ghost use Rattle.text.specs.Number.{decimal};

@@ -32,7 +32,7 @@ pub enum Refusal {
 }
 
 impl Refusal {
-    // Its number in the table.
+    // Its number in the table: `From` by a name, for who tells a code.
     pub fn number(self) -> u32
         ensures { result ≡ number_of self }
     {

@@ -1,10 +1,7 @@
-use Rattle.std.proofs.Common.{◌≡◌, refl, sym, length, rules, arith}
+use Rattle.std.proofs.Common.{◌≡◌, sym, length, rules, arith}
 use Rattle.theory_lists.specs.Test.{map_at-turn, map_at-end}
 use Rattle.clock.specs.Clock.{zero_past, is_within}
 use Rattle.clock.proofs.Clock.within.Goals as goal
-
-pub loop-place-init : goal.loop-place-init
-loop-place-init c = refl
 
 pub loop-place-preserved : goal.loop-place-preserved
 loop-place-preserved c =
