@@ -72,7 +72,7 @@ impl Sum {
     pub fn used(self, kept: bool, x: Cell) -> Sum
         ensures { result ≡ add_kept self kept x }
     {
-        if x.held && !is_blank(x.stamp) {
+        if !is_blank(x.stamp) && x.held {
             return self.clock(true, x.stamp, x.word);
         }
         self.clock(false, x.stamp, x.word).noted(kept & !x.held)

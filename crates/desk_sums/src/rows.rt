@@ -29,7 +29,8 @@ fn past_sum(cells: &[Cell], s: Sum) -> Sum
     sum
 }
 
-// Desk d's row, whose first n cells are the tray's.
+// Desk d's row, whose first n cells are the tray's. (Inlined: the table's sum stays in registers from row to row.)
+#[inline(always)]
 pub fn row_sum(row: &[Cell], t: &Tray, d: usize, n: usize, s: Sum) -> Sum
     requires { (n ≤ 32) × (length row.now ≡ 32) }
     ensures { result ≡ row_sum (place_at t.now) (cell_at row.now) d n s }
