@@ -17,7 +17,7 @@ impl Clock {
     // The clock of a fresh desk.
     pub const ZERO: Clock = Clock { n: [0; 8] };
 
-    // What either clock knows: the larger of each pair of numbers.
+    // What either clock knows: the larger of each pair of numbers. (No `zip`: of `iter_mut().zip(..)` the proof knows no values.)
     pub fn merge(self, other: Clock) -> Clock
         ensures { result ≡ merged self other }
     {

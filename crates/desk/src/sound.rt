@@ -53,6 +53,7 @@ fn keeps_at(n: Counts, p: Place, desk: u8, c: usize) -> bool
     (c < cells) & (p.keeper == desk)
 }
 
+// (It asks for a cell's bound: what is lent has any number, and a test here would need an answer for a case that never comes.)
 #[tactic(auto, unfolding(crate::specs::Desk::keeps))]
 pub fn keeps(t: Tray, desk: u8, c: usize) -> bool
     requires { c < 32 }

@@ -7,7 +7,8 @@ use crate::is_lost;
 use clock::Clock;
 use desk::{Cell, Tray};
 
-// Of its cells that are the tray's, desk d loses the copies strictly before a clock that it learns; how many.
+// Of its cells that are the tray's, desk d loses the copies strictly before a clock that it learns; how many. (No `zip` with the places, as in
+// `Clock::merge`.)
 pub fn lose(cells: &mut [Cell], t: &Tray, d: usize, learnt: Clock) -> u32
     requires { (length cells.old ≤ t.now.counts.cells) × (t.now.counts.cells ≤ 32) }
     ensures count { result ≡ swept_count (is_lost t.now d learnt) no_cell past_cell 0 (length cells.old) cells.old }

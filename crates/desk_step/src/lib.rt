@@ -17,7 +17,7 @@ use desk_acts::{
 
 mod allowed;
 
-// The desk loses its copies strictly before a clock that it learns; how many.
+// The desk loses its copies strictly before a clock that it learns; how many. (The count's bound is asked for, here and below: soundness has shown it.)
 fn lose(v: &mut Record, learnt: Clock) -> u32
     requires { v.old.tray.counts.cells ≤ 32 }
     ensures count { result ≡ loss_in v.old learnt }

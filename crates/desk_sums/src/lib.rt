@@ -134,7 +134,7 @@ pub fn used_by(n: Counts, d: usize) -> usize
     0
 }
 
-// A record without its row, and the row's sum: whether the record is sound.
+// A record without its row, and the row's sum: whether the record is sound. (The kind by number, as the definition has it.)
 #[tactic(auto, unfolding(crate::specs::Sums::record_fits))]
 pub fn record_fits(t: Tray, desk: u8, v: Seat, row: Sum) -> bool
     ensures { result ≡ record_fits t desk v row }

@@ -6,7 +6,7 @@ ghost use Rattle.desk_sums.specs.Rows.{used_sum, past_sum, row_sum};
 use crate::Sum;
 use desk::{Cell, Tray};
 
-// Cells that are the tray's, each with its place.
+// Cells that are the tray's, each with its place. (By number: over `zip` an item is told by the iterator's state, and the proof of a sum by places is longer.)
 fn used_sum(cells: &[Cell], t: &Tray, d: usize, s: Sum) -> Sum
     requires { length cells.now ≤ 32 }
     ensures { result ≡ used_sum (place_at t.now) (cell_at cells.now) d s (length cells.now) }
@@ -29,7 +29,8 @@ fn past_sum(cells: &[Cell], s: Sum) -> Sum
     sum
 }
 
-// Desk d's row, whose first n cells are the tray's. (Inlined: the table's sum stays in registers from row to row.)
+// Desk d's row, whose first n cells are the tray's. (n beside it: a record's row is summed before its tray is known to be sound. Inlined, so that the
+// table's sum stays in registers from row to row.)
 #[inline(always)]
 pub fn row_sum(row: &[Cell], t: &Tray, d: usize, n: usize, s: Sum) -> Sum
     requires { (n ≤ 32) × (length row.now ≡ 32) }

@@ -82,7 +82,7 @@ fn put_head(out: &mut [u8], size: usize, m: &Message)
     out[2..7].copy_from_slice(&head);
 }
 
-// The word and the first n of the clock's numbers, after the head.
+// The word and the first n of the clock's numbers, after the head. (n beside the message: so many are sent.)
 fn put_numbers(out: &mut [u8], word: u32, clock: &Clock, n: usize)
     requires { (n ≤ 8) × (11 + 4 * n ≤ length out.old) }
     ensures { out.new ≡ put 7 (spell (take (1 + n) (drop 6 widths)) (word ∷ clock.now.n)) (4 * (1 + n)) out.old }

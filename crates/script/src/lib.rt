@@ -39,7 +39,7 @@ pub fn answer(s: &[u8], out: &mut [u8; 270400]) -> usize
     page.len()
 }
 
-// Prints what the whole input must answer.
+// Prints what the whole input must answer. (The page is asked to be blank by all three that it goes through.)
 fn print(s: &[u8], page: &mut Page)
     requires { Blank page.old }
     ensures prints { Prints (script_answer set_up event s.now) page.old page.new }

@@ -14,7 +14,7 @@ pub trait Spelled {
         requires { at + width ≤ length s.now }
         ensures { number result ≡ numeral (take width (drop at s.now)) };
 
-    // Of any number so many bytes, the lowest, put in at a place.
+    // Of any number so many bytes, the lowest, put in at a place. (A usize for both: any number may be asked for in two bytes, and so it was.)
     fn put(out: &mut [u8], at: usize, x: usize)
         requires { at + width ≤ length out.old }
         ensures { out.new ≡ put at (bytes width x) width out.old };

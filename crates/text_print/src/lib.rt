@@ -7,7 +7,7 @@ ghost use Rattle.text.specs.Line.{line_of, bad_line, too_long};
 ghost use Rattle.text.specs.Printing.{ended};
 ghost use Rattle.text_print.specs.Page.{HasRoom, Prints};
 
-// A buffer, and how many bytes of it are printed.
+// A buffer, and how many bytes of it are printed. (Both, since `Put` says what stands before and behind what is printed.)
 #[derive(Drop)]
 pub struct Page<'a> {
     out: &'a mut [u8],
