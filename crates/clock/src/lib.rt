@@ -73,7 +73,7 @@ impl PartialOrd for Clock {
     }
 }
 
-// One clock laid over another, bit by bit. (A literal: it is what the soundness loops do, and by `array::from_fn` or a loop over the places they took
+// One clock laid over another, bit by bit. (A literal: the soundness loops spend their time here, and by `array::from_fn` or a loop over the places they took
 // 1.2 times as long. A loop by `iter_mut` and `zip` is as fast, but its invariant has no name for what was written.)
 impl BitOr for Clock {
     type Output = Clock;

@@ -10,7 +10,7 @@ use kinds::Kind;
 pub mod kinds;
 pub mod sound;
 
-// What a desk has of one cell. A cell that is not held has word 0 and the zero stamp.
+// What a desk has of one cell. A cell that is not held has word 0 and the zero stamp. (A flag beside its value and no Option: C lends it.)
 #[repr(C)]
 #[derive(Clone, Copy)]
 pub struct Cell {

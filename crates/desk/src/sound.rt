@@ -77,6 +77,7 @@ pub fn tray_sound(t: Tray) -> bool
     ensures { result ≡ tray_sound t }
 {
     let n = t.counts;
+    // (A flag and no early end, as in `Clock::within`.)
     let mut ok = (1 <= n.desks) & (n.desks <= 8) & ((1 <= n.cells) & (n.cells <= 32));
     for (c, p) in t.places.iter().enumerate() {
         ok &= place_sound(n, c, *p);

@@ -1,7 +1,7 @@
 #![tactic(auto)]
 // What a desk's steps make of a seat and of a cell: by value, and an own event, a store and a sweep where they lie. Record and table are thin functions
 // over these.
-ghost use Rattle.std.specs.Prelude.{◌≡◌, ◌+◌, ◌*◌, ◌<◌, eqb};
+ghost use Rattle.std.specs.Prelude.{◌≡◌, ◌+◌, ◌*◌, ◌<◌};
 ghost use Rattle.clock.specs.Clock.{number, raised};
 ghost use Rattle.desk.specs.Desk.{held_cell, answer_kind};
 ghost use Rattle.desk.specs.Parts.{change_of, asked_for, asking_seat, raised_seat, read_reply, write_reply, own_reply, took_seat, answered_seat, home_seat, brought_cell, brought_reply, reply_of, loses_if};
@@ -17,7 +17,7 @@ pub mod rows;
 use clock::Clock;
 use desk::kinds::{Act, Kind};
 use desk::sound::{is_blank, waits};
-use desk::{Answer, Cell, Counts, Event, Message, Place, Reply, Seat, Slot};
+use desk::{Answer, Cell, Counts, Event, Message, Reply, Seat, Slot};
 use theory_refusals::Refusal;
 
 // What an own event changes.
@@ -148,7 +148,7 @@ fn asked_for(s: Seat, desk: usize, e: Event) -> Slot
 }
 
 // The seat of a desk that asks. (What has a desk's number for an index asks for one below 8 here and in the crates above: C and lent memory have it as a plain
-// number, and a type of its own would have to be made from one, with this test, at each call.)
+// number, and a type of its own would have to be made from one, with the same proof, at each call.)
 fn asking(s: Seat, desk: usize, e: Event) -> Seat
     requires { (desk < 8) × (e.cell < 32) × HasNumber e s.clock desk × ((e.kind ≡ 1 → ⊥) → e.kind ≡ 2) }
     ensures { result ≡ asking_seat s desk e }
@@ -218,7 +218,8 @@ pub fn took(s: Seat, sent: Clock) -> Seat
     }
 }
 
-// The kind of the answer to a request. By number, since its clause `answer_kind` holds of an empty slot's 0 too, which no Kind answers.
+// The kind of the answer to a request. By number, since its clause `answer_kind` holds of an empty slot's 0 too, which no Kind answers. (It and two below
+// ask for a request's kind: slots and messages have any number, and 13 and 15 have shown it.)
 pub fn answer_kind(asked: u8) -> u8
     requires { asked < 3 }
     ensures { result ≡ answer_kind asked }
@@ -312,6 +313,7 @@ pub fn refused_answer(code: u32) -> Answer
 pub fn asked_message(change: Change, n: Counts, desk: u8, s: Slot) -> Message
     ensures { result ≡ asked_message (change_number change) n desk s }
 {
+    // (An if, as in `asked_for`.)
     if change != Change::Asks {
         return Message::NONE;
     }

@@ -25,7 +25,7 @@ fn lose(v: &mut Record, learnt: Clock) -> u32
 {
     // Read as a slice, the row shows the proof how long it is.
     let _row: &[Cell] = &v.row;
-    // A copy of the tray's few bytes: lent itself beside the row, it is in a form that the borrow check doesn't cover.
+    // A copy of the tray's few bytes: lent itself after the row's part, it was a form that the borrow check doesn't cover.
     let t = v.tray;
     let d = v.desk as usize;
     rows::lose(&mut v.row[..t.counts.cells as usize], &t, d, learnt)
@@ -56,6 +56,7 @@ fn take(v: &mut Record, m: Message) -> Answer
     ensures { (result ≡ answer_of (serve_done v.old m)) × (v.new ≡ (serve_done v.old m).after) }
 {
     let c = m.cell as usize;
+    // (An if, as in `desk_acts::asked_for`.)
     if m.kind == Kind::ReadAsked as u8 {
         return served_answer(0, m, v.row[c]);
     }

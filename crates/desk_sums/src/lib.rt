@@ -66,8 +66,9 @@ impl Sum {
         self.clock(false, x.stamp, x.word).noted(x.held)
     }
 
-    // A cell of the tray. A held one whose stamp is all zeros is added as one that is not held, so that its word must be 0. (`kept` is looked at
-    // only where no stamp is held: a keeper's cells cost nothing.)
+    // A cell of the tray. A held one whose stamp is all zeros is added as one that is not held, so that its word must be 0. (`kept` is asked only
+    // of a cell that does not hold a stamp. The stamp first, and `&&`: the other way round a keeper's write at a record took 1.02 of the twin's time, and with
+    // `&` the table's rows 1.7 times as long.)
     #[tactic(auto, unfolding(crate::specs::Sums::add_kept))]
     pub fn used(self, kept: bool, x: Cell) -> Sum
         ensures { result ≡ add_kept self kept x }

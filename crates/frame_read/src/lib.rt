@@ -84,7 +84,7 @@ fn message_in(s: &[u8], c: usize) -> Message
     }
 }
 
-// (c beside the bytes: others may follow the frame.) Of the word and the clock's numbers the one at place k, or 0 where the frame carries fewer.
+// Of the word and the clock's numbers the one at place k, or 0 where the frame carries fewer. (c beside the bytes: others may follow the frame.)
 #[tactic(auto, using(frame::specs::Laws::number_past))]
 fn number(s: &[u8], c: usize, k: usize) -> u32
     requires { 7 + 4 * c ≤ length s.now }

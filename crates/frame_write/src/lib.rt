@@ -30,7 +30,8 @@ pub fn write(out: &mut [u8], m: &Message) -> Written
 fn framed(out: &mut [u8], m: &Message) -> Result<usize, Refusal>
     ensures { (told result ≡ write_rule m.now out.old) × (out.new ≡ output_rule m.now out.old) }
 {
-    // What both refuse is asked in each: where the kind is known, its test goes. Asked before, a request took 1.17 of the twin's time, and takes 0.8 to 1.1.
+    // `fault` is asked in each branch: where the kind is known, the compiler drops its test. Asked once before them, a read request took 1.17 of the twin's
+    // time, and so 0.8 to 1.1. (An if, as in `desk_acts::asked_for`.)
     if m.kind == Kind::ReadAsked as u8 {
         fault(m.kind, m.desks, m.desk, m.cell)?;
         return bare(out, m);

@@ -1,6 +1,6 @@
 #![tactic(auto)]
 // What the script program answers, as a function from an input slice to an output array.
-ghost use Rattle.std.specs.Prelude.{Some, true, ◌∷◌, [], ◌≡◌, ◌+◌, ◌≤◌, ℕ, List, length, MatchResult};
+ghost use Rattle.std.specs.Prelude.{Some, true, ◌≡◌, ◌+◌, ◌≤◌, ℕ, List, length, MatchResult};
 ghost use Rattle.std.proofs.Math.Option.{none, some};
 ghost use Rattle.table.specs.Room.{Room};
 ghost use Rattle.table.specs.Sound.{table_sound};
@@ -39,7 +39,7 @@ pub fn answer(s: &[u8], out: &mut [u8; 270400]) -> usize
     page.len()
 }
 
-// Prints what the whole input must answer. (The page is asked to be blank by all three that it goes through.)
+// Prints what the whole input must answer. (Three ask for a blank page: what is printed makes it another, so that it is no invariant of `Page`.)
 fn print(s: &[u8], page: &mut Page)
     requires { Blank page.old }
     ensures prints { Prints (script_answer set_up event s.now) page.old page.new }
@@ -80,6 +80,7 @@ fn begin(text: &[u8]) -> Result<(Table, &[u8]), Stop>
         cells,
         keepers,
     };
+    // (A match and no `map_err`: the edit `refused_set_up_goes_on` wants an arm by which to let one refusal through.)
     match table_set_up::made(plan) {
         Ok(table) => Ok((table, text)),
         Err(r) => Err(Stop::Refused(r)),

@@ -11,6 +11,7 @@ use desk_sums::rows::row_sum;
 use desk_sums::{Sum, slot_cell, used_by};
 use table::Table;
 
+// (The places as a slice and not the tray: it shows the proof how many they are.)
 fn seats_sum(seats: &[Seat], n: Counts, places: &[Place]) -> Sum
     requires { length places.now ≡ 32 }
     ensures { result ≡ seats_sum (record { counts = n; places = places.now }) (λ d. get_or seats.now d past_seat) (length seats.now) }

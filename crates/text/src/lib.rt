@@ -11,7 +11,7 @@ use std::marker::Model;
 // A line has no more numbers than this: they need no heap.
 const MOST: usize = 32;
 
-// The numbers of a line.
+// The numbers of a line: an array and how many of it stand (no heap, see `MOST`).
 #[derive(Drop)]
 pub struct Numbers {
     n: [u32; MOST],

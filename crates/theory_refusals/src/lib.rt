@@ -32,7 +32,7 @@ pub enum Refusal {
 }
 
 impl Refusal {
-    // Its number in the table: `From` by a name, for who tells a code.
+    // Its number in the table. (What our code calls; `From` below is for who takes it by the trait.)
     pub fn number(self) -> u32
         ensures { result ≡ number_of self }
     {
