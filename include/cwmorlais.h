@@ -33,8 +33,8 @@
 extern "C" {
 #endif
 
-/* Stack that is enough for a call, in bytes, beside what it returns and is handed by value. c/test measures what the calls of 01's whole case touch:
- * a table's event 184, a desk's 440 to 520, a start and a set-up 360, a frame at most 128. */
+/* Stack that is enough for a call, in bytes, beside what it returns and is handed by value. c/test measures what the calls of 01's whole case touch, and
+ * holds them to it: a table's event at most 184, a desk's at most 520, a start and a set-up at most 360, a frame at most 128. */
 #define CWMORLAIS_STACK_BYTES 1024
 
 /* The longest frame: 2 bytes of length, 5 of head, a word and 8 clock numbers. */

@@ -4,7 +4,7 @@
 ghost use Rattle.std.specs.Prelude.{◌≡◌, ◌+◌, ◌*◌, ◌<◌};
 ghost use Rattle.clock.specs.Clock.{number, raised};
 ghost use Rattle.desk.specs.Desk.{held_cell, answer_kind};
-ghost use Rattle.desk.specs.Parts.{change_of, asked_for, asking_seat, raised_seat, read_reply, write_reply, own_reply, took_seat, answered_seat, home_seat, brought_cell, brought_reply, reply_of, loses_if};
+ghost use Rattle.desk.specs.Parts.{change_of, asking_seat, read_reply, write_reply, own_reply, took_seat, answered_seat, home_seat, brought_cell, brought_reply, reply_of, loses_if};
 ghost use Rattle.desk.specs.Parts.{refused_answer, asked_message, served_answer, brought_answer};
 ghost use Rattle.desk.specs.Rules.{shown_code, refused_reply, place_lines};
 ghost use Rattle.desk_acts.specs.Change.{change_number, code_number};
@@ -114,61 +114,43 @@ fn write_reply(kept: bool, word: u32) -> Reply
     }
 }
 
+// One desk's number of a clock, one higher.
+#[inline(always)]
 #[tactic(auto, unfolding(clock::specs::Clock::raised))]
-fn next(clock: Clock, desk: usize) -> Clock
-    requires { (desk < 8) × (number clock desk ≡ 4294967295 → ⊥) }
-    ensures { result ≡ raised clock desk }
+fn raise(clock: &mut Clock, desk: usize)
+    requires { (desk < 8) × (number clock.old desk ≡ 4294967295 → ⊥) }
+    ensures { clock.new ≡ raised clock.old desk }
 {
-    let mut next = clock;
-    next.n[desk] += 1;
-    next
+    clock.n[desk] += 1;
 }
 
-// The request of a read or a write.
+// The request of a read or a write stands in the slot of the desk that asks. (In place, as `raise` is: on a copy of the clock an event's stack is a third
+// larger. What has a desk's number for an index asks for one below 8 here and in the crates above: C and lent memory have it as a plain number, and a type
+// of its own would have to be made from one, with the same proof, at each call.)
+#[inline(always)]
 #[tactic(auto, unfolding(desk::specs::Parts::asked_for))]
-fn asked_for(s: Seat, desk: usize, e: Event) -> Slot
-    requires { (desk < 8) × (e.cell < 32) × HasNumber e s.clock desk × ((e.kind ≡ 1 → ⊥) → e.kind ≡ 2) }
-    ensures { result ≡ asked_for s desk e }
+fn ask(seat: &mut Seat, desk: usize, e: Event)
+    requires { (desk < 8) × (e.cell < 32) × HasNumber e seat.old.clock desk × ((e.kind ≡ 1 → ⊥) → e.kind ≡ 2) }
+    ensures { seat.new ≡ asking_seat seat.old desk e }
 {
     let cell = e.cell as u8;
+    seat.served = false;
     // (An if: one kind against the rest, of which a match would say no more. So too where `desk_step`, `table_step` and the frames ask for one kind.)
     if e.kind == Act::Read as u32 {
-        return Slot {
+        seat.slot = Slot {
             kind: Kind::ReadAsked as u8,
             cell,
             ..Slot::NONE
         };
+        return;
     }
-    Slot {
+    seat.slot = Slot {
         kind: Kind::WriteAsked as u8,
         cell,
         word: e.word,
-        clock: next(s.clock, desk),
-    }
-}
-
-// The seat of a desk that asks. (What has a desk's number for an index asks for one below 8 here and in the crates above: C and lent memory have it as a plain
-// number, and a type of its own would have to be made from one, with the same proof, at each call.)
-fn asking(s: Seat, desk: usize, e: Event) -> Seat
-    requires { (desk < 8) × (e.cell < 32) × HasNumber e s.clock desk × ((e.kind ≡ 1 → ⊥) → e.kind ≡ 2) }
-    ensures { result ≡ asking_seat s desk e }
-{
-    Seat {
-        slot: asked_for(s, desk, e),
-        served: false,
-        ..s
-    }
-}
-
-// The seat of a keeper that writes: its own number is one higher.
-fn raising(s: Seat, desk: usize) -> Seat
-    requires { (desk < 8) × (number s.clock desk ≡ 4294967295 → ⊥) }
-    ensures { result ≡ raised_seat s desk }
-{
-    Seat {
-        clock: next(s.clock, desk),
-        ..s
-    }
+        clock: seat.clock,
+    };
+    raise(&mut seat.slot.clock, desk);
 }
 
 fn held(word: u32, stamp: Clock) -> Cell
@@ -190,6 +172,7 @@ pub fn store(seat: &mut Seat, cell: &mut Cell, s: Seat, word: u32)
 }
 
 // What an own event makes of its desk's seat and of the named cell. Only what changes is stored, and an empty cell as the constant.
+#[inline(always)]
 #[tactic(auto, unfolding(crate::specs::Own::own_seat, crate::specs::Own::own_cell, desk::specs::Parts::change_of))]
 pub fn own(seat: &mut Seat, cell: &mut Cell, kept: bool, desk: usize, e: Event) -> Reply
     requires { (desk < 8) × (e.cell < 32) × HasNumber e seat.old.clock desk }
@@ -200,8 +183,11 @@ pub fn own(seat: &mut Seat, cell: &mut Cell, kept: bool, desk: usize, e: Event) 
     let reply = own_reply(kept, *cell, e);
     match change_of(kept, *cell, e) {
         Change::Nothing => {}
-        Change::Asks => *seat = asking(*seat, desk, e),
-        Change::Stores => store(seat, cell, raising(*seat, desk), e.word),
+        Change::Asks => ask(seat, desk, e),
+        Change::Stores => {
+            raise(&mut seat.clock, desk);
+            *cell = held(e.word, seat.clock);
+        }
         Change::GivesUp => *cell = Cell::NONE,
     }
     reply
@@ -313,7 +299,7 @@ pub fn refused_answer(code: u32) -> Answer
 pub fn asked_message(change: Change, n: Counts, desk: u8, s: Slot) -> Message
     ensures { result ≡ asked_message (change_number change) n desk s }
 {
-    // (An if, as in `asked_for`.)
+    // (An if, as in `ask`.)
     if change != Change::Asks {
         return Message::NONE;
     }

@@ -25,11 +25,13 @@ pub fn seat_refusal(t: Tray, desk: u8, s: Seat, e: Event) -> Result<(), Refusal>
     if own & waits(s.slot) {
         return Err(Refusal::DeskWaits);
     }
+    // (The clock alone is looked up by a number: of the whole seat a copy would stand on the stack.)
+    let clock = s.clock;
     match Act::try_from(e.kind) {
         Ok(Act::Take) if !is_asked(s.slot) => Err(Refusal::NothingThere),
         Ok(Act::Bring) if !is_answered(s.slot) => Err(Refusal::NothingThere),
         Ok(Act::Drop) if keeps(t, desk, e.cell as usize) => Err(Refusal::CellKept),
-        Ok(Act::Write) if s.clock.n[desk as usize] == u32::MAX => Err(Refusal::NoNumberLeft),
+        Ok(Act::Write) if clock.n[desk as usize] == u32::MAX => Err(Refusal::NoNumberLeft),
         _ => Ok(()),
     }
 }

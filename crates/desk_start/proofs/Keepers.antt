@@ -1,42 +1,14 @@
--- A plan's keepers: that all those below the cell count are desks, and the places that they make.
+-- The places that a plan's keepers make.
 -- Assumes nothing.
-use Rattle.std.proofs.Common.{◌≡◌, sym, ap, ◌∙◌, Bool, true, not, ◌&&◌, ◌||◌, ℕ, zero, suc, ◌<◌, ltb, List, [], ◌∷◌, length, take, get_or, replicate, arith, lt-ltb, le-ltb, ext_get_or}
-use Rattle.std.proofs.Math.Bool.{and_assoc, and-true}
+use Rattle.std.proofs.Common.{◌≡◌, sym, ◌∙◌, ℕ, ◌<◌, List, length, get_or, replicate, arith, lt-ltb, le-ltb, ext_get_or}
 use Rattle.std.proofs.Math.Decide.{dec_lt}
-use Rattle.std.proofs.lemmas.Bool.Decides.{nat_tests}
 use Rattle.std.proofs.lemmas.List.{length-replicate, get_or-replicate}
-use Rattle.std.specs.List.{fold}
-use Rattle.theory_lists.specs.Each.{map_at, length-map_at, get_or-map_at, map_at-same}
+use Rattle.theory_lists.specs.Each.{map_at, length-map_at, get_or-map_at}
 use Rattle.theory_lists.specs.Replaced.{up_to, up_to-passed, up_to-ahead, length-up_to}
-use Rattle.theory_lists.specs.Test.{every, map_at-every}
 use Rattle.desk.specs.declared.Place.{Place}
 use Rattle.desk.specs.Desk.{no_place}
-use Rattle.desk.specs.Start.{keeper_right, planned_place}
+use Rattle.desk.specs.Start.{planned_place}
 
--- a keeper past the count passes whatever it is
-past-right : (desks : ℕ) (l : List ℕ) → every (map_at (keeper_right desks 0) l) ≡ true
-past-right desks l = map_at-every (keeper_right desks 0) l 0 (λ c h. rw (le-ltb c 0 (omega arith)))
-
--- the first of a list is tested, and the others are as in the list without it
-first-right : (desks n k : ℕ) (l : List ℕ) → (ltb k desks && every (map_at (keeper_right desks n) l)) ≡ every (map_at (keeper_right desks (suc n)) (k ∷ l))
-unfolding map_at every
-first-right desks n k l =
-    rw (lt-ltb 0 (suc n) (omega arith))
-    (ap (λ r. ltb k desks && every r)
-    (map_at-same (keeper_right desks n) (λ c. keeper_right desks (suc n) (suc c)) l 0
-    (λ c h. ap (λ b. not b || ltb (get_or l c 0) desks) (ltb-suc c n))))
-  where
-    ltb-suc : (c n : ℕ) → ltb c n ≡ ltb (suc c) (suc n)
-    ltb-suc c n = grind (arith, nat_tests)
-
-pub folded : (desks n : ℕ) (b : Bool) (l : List ℕ) → fold (λ a k. a && ltb k desks) b (take n l) ≡ (b && every (map_at (keeper_right desks n) l))
-unfolding map_at every
-folded desks zero b l = sym (ap (λ a. b && a) (past-right desks l) ∙ and-true b)
-folded desks (suc n) b [] = sym (and-true b)
-folded desks (suc n) b (k ∷ l) =
-    folded desks n (b && ltb k desks) l ∙ and_assoc b (ltb k desks) (every (map_at (keeper_right desks n) l)) ∙ ap (λ a. b && a) (first-right desks n k l)
-
--- ---- the places
 abbrev pub kept_at : List ℕ → ℕ → Place
 kept_at keepers c = record { keeper = get_or keepers c 0 }
 

@@ -56,7 +56,7 @@ fn take(v: &mut Record, m: Message) -> Answer
     ensures { (result ≡ answer_of (serve_done v.old m)) × (v.new ≡ (serve_done v.old m).after) }
 {
     let c = m.cell as usize;
-    // (An if, as in `desk_acts::asked_for`.)
+    // (An if, as in `desk_acts::ask`.)
     if m.kind == Kind::ReadAsked as u8 {
         return served_answer(0, m, v.row[c]);
     }

@@ -51,7 +51,7 @@ pub fn fault(kind: u8, desks: u8, desk: u8, cell: u8) -> Result<(), Refusal>
 pub fn carries(kind: u8, desks: u8) -> usize
     ensures { result ≡ carried kind desks }
 {
-    // (An if, as in `desk_acts::asked_for`.)
+    // (An if, as in `desk_acts::ask`.)
     if kind == Kind::ReadAsked as u8 {
         return 0;
     }

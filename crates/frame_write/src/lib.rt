@@ -31,7 +31,7 @@ fn framed(out: &mut [u8], m: &Message) -> Result<usize, Refusal>
     ensures { (told result ≡ write_rule m.now out.old) × (out.new ≡ output_rule m.now out.old) }
 {
     // `fault` is asked in each branch: where the kind is known, the compiler drops its test. Asked once before them, a read request took 1.17 of the twin's
-    // time, and so 0.8 to 1.1. (An if, as in `desk_acts::asked_for`.)
+    // time, and so 0.8 to 1.1. (An if, as in `desk_acts::ask`.)
     if m.kind == Kind::ReadAsked as u8 {
         fault(m.kind, m.desks, m.desk, m.cell)?;
         return bare(out, m);

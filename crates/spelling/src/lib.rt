@@ -56,6 +56,14 @@ pub fn put_fours(out: &mut [u8], at: usize, ns: &[u32])
     ensures { out.new ≡ put at (spell (replicate (length ns.now) 4) ns.now) (4 * length ns.now) out.old }
 {
     for (k, x) in ns.iter().enumerate() {
-        u32::put(out, at + 4 * k, *x as usize);
+        put_one(out, at, k, *x);
     }
+}
+
+// The one at place k of a row of them. (By itself, so that an edit can leave one out and the row's proof is the same.)
+fn put_one(out: &mut [u8], at: usize, k: usize, x: u32)
+    requires { at + 4 * k + 4 ≤ length out.old }
+    ensures { out.new ≡ put (at + 4 * k) (bytes 4 x) 4 out.old }
+{
+    u32::put(out, at + 4 * k, x as usize);
 }

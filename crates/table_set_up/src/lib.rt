@@ -14,9 +14,9 @@ use theory_refusals::Refusal;
 pub fn set_up(t: &mut Table, plan: Plan) -> u32
     ensures { (result ≡ (set_up_rule plan).code) × (t.new ≡ (set_up_rule plan).table) }
 {
-    match check_plan(&plan) {
+    match check_plan(plan) {
         Ok(()) => {
-            fresh(t, tray(&plan));
+            fresh(t, tray(plan));
             0
         }
         Err(r) => {
@@ -31,9 +31,9 @@ pub fn made(plan: Plan) -> Result<Table, Refusal>
     ensures code { code_of result ≡ (set_up_rule plan).code }
     ensures table { IfOk result (λ t. t ≡ (set_up_rule plan).table) }
 {
-    check_plan(&plan)?;
+    check_plan(plan)?;
     let mut table = Table::NONE;
-    fresh(&mut table, tray(&plan));
+    fresh(&mut table, tray(plan));
     Ok(table)
 }
 

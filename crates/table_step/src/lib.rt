@@ -61,7 +61,7 @@ fn take(t: &mut Table, d: usize) -> Reply
     let slot = s.slot;
     let c = slot.cell as usize;
     let k = t.tray.places[c].keeper as usize;
-    // (An if, as in `desk_acts::asked_for`.)
+    // (An if, as in `desk_acts::ask`.)
     let count = if slot.kind == Kind::WriteAsked as u8 {
         take_write(t, k, c, s)
     } else {

@@ -11,8 +11,8 @@ use std::marker::Model;
 // A line has no more numbers than this: they need no heap.
 const MOST: usize = 32;
 
-// The numbers of a line: an array and how many of it stand (no heap, see `MOST`).
-#[derive(Drop)]
+// The numbers of a line: an array and how many of it stand (no heap, see `MOST`). (No `Copy`: of one that is, beside a slice, `?` has no proof in `script`.)
+#[derive(Clone, Drop)]
 pub struct Numbers {
     n: [u32; MOST],
     count: usize,
@@ -61,7 +61,10 @@ impl Numbers {
 pub fn read_line(text: &[u8]) -> Option<(Option<Numbers>, &[u8])>
     ensures { MatchOption result (front_line text.now ≡ none) (λ l. front_line text.now ≡ some (l.0, l.1.now)) }
 {
-    let end = find(text, b'\n')?;
+    // (An else and no `?`: the edit `line_without_lf` wants a place where a line that no LF ends is taken.)
+    let Some(end) = find(text, b'\n') else {
+        return None;
+    };
     Some((read_numbers(&text[..end]), &text[end + 1..]))
 }
 

@@ -6,14 +6,15 @@ use Rattle.desk.specs.declared.Place.{Place}
 use Rattle.desk.specs.declared.Record.{Record}
 use Rattle.desk.specs.Desk.{no_place, place_at, kept_by}
 use Rattle.desk.specs.Rules.{holds}
-use Rattle.desk.specs.Start.{blank_cell}
-use Rattle.desk.specs.StartInPlace.{kept_to, kept-none, kept-one, kept-stays, kept_fresh}
+use Rattle.desk.specs.Start.{blank_cell, no_record}
+use Rattle.desk.specs.StartInPlace.{with_tray, with_desk, kept_to, kept-none, kept-one, kept-stays, kept_fresh}
 use Rattle.desk_start.proofs.Cleared.{cleared}
 use Rattle.desk_start.proofs.fresh.Goals as goal
 use Rattle.desk_start.proofs.fresh.Goals.{then-kept_by, else-kept_by}
 
 pub loop-c-init : goal.loop-c-init
-loop-c-init c = sym (kept-none (cleared c.args.t c.args.desk))
+unfolding no_record
+loop-c-init c = ap (λ (u : Record). with_desk (with_tray u c.args.t) c.args.desk) c.clear.ensures ∙ sym (kept-none (cleared c.args.t c.args.desk))
 
 pub loop-c-preserved : goal.loop-c-preserved
 loop-c-preserved c =

@@ -1,7 +1,7 @@
 -- With no refusal the record is made fresh.
 use Rattle.std.proofs.Common.{sym, ap, ◌∙◌, arith}
 use Rattle.desk.specs.declared.Started.{Started}
-use Rattle.desk.specs.Start.{fresh_record, no_record, no_tray, not_started, start_refusal, start_rule}
+use Rattle.desk.specs.Start.{fresh_record, not_started, start_refusal, start_rule}
 use Rattle.desk.specs.StartInPlace.{few-cells, start-refused}
 use Rattle.desk.specs.StartLaws.{settled, start-passed}
 use Rattle.theory_refusals.specs.Refusals.{unless-done}
@@ -25,8 +25,7 @@ returns-in-Ok c =
     (ap (λ (s : Started). s.code) same, c.fresh.ensures ∙ ap (λ t. fresh_record t c.args.desk) c.tray.ensures ∙ ap (λ (s : Started). s.«record») same)
 
 pub returns-in-Err : goal.returns-in-Err
-unfolding no_record no_tray
 returns-in-Err c =
     let told = c.number.ensures ∙ c.in-Err.ensures in
     let same = sym (start-refused c.args.plan c.args.desk (λ none. grind arith)) in
-    (told ∙ ap (λ (s : Started). s.code) same, ap (λ (s : Started). s.«record») same)
+    (told ∙ ap (λ (s : Started). s.code) same, c.clear.ensures ∙ ap (λ (s : Started). s.«record») same)

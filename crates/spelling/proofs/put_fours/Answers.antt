@@ -50,7 +50,7 @@ pub loop-k-preserved : goal.loop-k-preserved
 loop-k-preserved c =
     let k = c.loop-k.k in
     let ns = c.args.ns.now in
-    c.put.ensures
+    c.put_one.ensures
     ∙ ap (λ (l : List ℕ). put (c.args.at + 4 * k) (bytes 4 (get_or ns k 0)) 4 l) c.loop-k.invariant
     ∙ put-turn ns c.args.out.now c.args.at k (omega arith) (omega arith)
 

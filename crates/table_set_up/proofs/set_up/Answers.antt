@@ -1,5 +1,5 @@
 -- With no refusal the table is made fresh.
-use Rattle.std.proofs.Common.{◌≡◌, sym, ◌∙◌, length, rules}
+use Rattle.std.proofs.Common.{◌≡◌, sym, length, rules, arith}
 use Rattle.desk.specs.Start.{no_tray}
 use Rattle.table.specs.SetUp.{no_table}
 use Rattle.table.specs.SetUpInPlace.{housed}
@@ -18,4 +18,4 @@ pub returns-in-Err : goal.returns-in-Err
 unfolding no_table no_tray
 returns-in-Err c =
     let none = refused c.args.plan c.in-Err.r c.in-Err.ensures in
-    (c.number.ensures ∙ none.0, none.1)
+    (omega (arith, c.number.ensures, none.0), none.1)

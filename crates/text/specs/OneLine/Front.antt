@@ -45,3 +45,9 @@ module _ (n : ℕ) (ns : List ℕ) (small : Small (n ∷ ns)) (short : length ns
       let there : drop next new ≡ behind =
       ap (λ (i : ℕ). drop i new) p.after ∙ sym (drop-drop (length l) at new) ∙ ap (drop (length l)) here ∙ drop-append_seam l behind in
       rw (here, there) (front-printed behind)
+
+-- a reply that was printed is read as a line of three numbers: code, value, count
+pub front-reply : (code value count : ℕ) {old new : List ℕ} {at next : ℕ} → Small (code ∷ value ∷ count ∷ [])
+    → Room (line_of (code ∷ value ∷ count ∷ [])) old at → Put (line_of (code ∷ value ∷ count ∷ [])) old at new next
+    → front_line (drop at new) ≡ some (Some (code ∷ value ∷ count ∷ []), drop next new)
+front-reply code value count small room p = front-put code (value ∷ count ∷ []) small (omega arith) room p
