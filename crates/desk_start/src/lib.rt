@@ -63,7 +63,7 @@ fn check_start(plan: Plan, desk: u32) -> Result<(), Refusal>
 }
 
 // Whether every keeper below the cell count is a desk. (By number, here and in `tray`: lent as a slice, the keepers of a plan that comes by value are copied
-// with it first, by a `memcpy` that the library would then need from whoever links it, and with a third more stack.)
+// with it first, by a `memcpy` that the library would then need from whoever links it, and with 80 bytes more stack.)
 fn keepers_right(plan: Plan) -> bool
     requires { plan.cells ≤ 32 }
     ensures { result ≡ keepers_right plan }

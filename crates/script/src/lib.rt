@@ -70,11 +70,13 @@ fn begin(text: &[u8]) -> Result<(Table, &[u8]), Stop>
     ensures { MatchResult result (λ r. Ready (begun set_up event (lines_of text.now)) text.now r.0 r.1.now)
         (EndsIn (begun set_up event (lines_of text.now))) }
 {
-    let (counts, text) = line(text, 1)?;
-    let [desks, cells] = *counts.as_slice() else {
+    let Ok(read) = line(text, 1) else {
         return Err(Stop::BadLine(1));
     };
-    let (keepers, text) = read_keepers(cells, text)?;
+    let [desks, cells] = *read.0.as_slice() else {
+        return Err(Stop::BadLine(1));
+    };
+    let (keepers, text) = read_keepers(cells, read.1)?;
     let plan = Plan {
         desks,
         cells,
@@ -96,13 +98,15 @@ fn read_keepers(cells: u32, text: &[u8]) -> Result<([u32; 32], &[u8]), Stop>
     if !(0 < cells && cells <= 32) {
         return Ok((keepers, text));
     }
-    let (numbers, rest) = line(text, 2)?;
-    let numbers = numbers.as_slice();
+    let Ok(read) = line(text, 2) else {
+        return Err(Stop::BadLine(2));
+    };
+    let numbers = read.0.as_slice();
     if numbers.len() != cells as usize {
         return Err(Stop::BadLine(2));
     }
     keepers[..numbers.len()].copy_from_slice(numbers);
-    Ok((keepers, rest))
+    Ok((keepers, read.1))
 }
 
 // Prints the replies to the events. A fresh table is sound and every event keeps it so: none is tested.
@@ -132,8 +136,10 @@ fn read_event(text: &[u8], n: u32) -> Result<(Event, &[u8]), Stop>
         (λ r. (ns : List ℕ) × (front_line text.now ≡ some (Some ns, r.1.now)) × (length ns ≡ 4) × (r.0 ≡ event_of ns))
         (λ stop. (having 4 (first (lines_of text.now)) ≡ none) × (stop ≡ Stop.BadLine n)) }
 {
-    let (numbers, rest) = line(text, n)?;
-    let [kind, desk, cell, word] = *numbers.as_slice() else {
+    let Ok(read) = line(text, n) else {
+        return Err(Stop::BadLine(n));
+    };
+    let [kind, desk, cell, word] = *read.0.as_slice() else {
         return Err(Stop::BadLine(n));
     };
     let e = Event {
@@ -142,15 +148,18 @@ fn read_event(text: &[u8], n: u32) -> Result<(Event, &[u8]), Stop>
         cell,
         word,
     };
-    Ok((e, rest))
+    Ok((e, read.1))
 }
 
 // The numbers of line n, which stands at the front of the text, and the text behind it. (The two go together from here to `run`: as a struct they would be
-// taken apart in each.)
+// taken apart in each. A match, and an else in those that call it: of `?` on `Numbers`, which is `Copy`, beside a slice there is no proof.)
 fn line(text: &[u8], n: u32) -> Result<(Numbers, &[u8]), Stop>
     ensures { MatchResult result (λ r. front_line text.now ≡ some (Some r.0, r.1.now))
         (λ stop. ((k : ℕ) → k ≤ 32 → having k (first (lines_of text.now)) ≡ none) × (stop ≡ Stop.BadLine n)) }
 {
-    let (numbers, rest) = read_line(text).ok_or(Stop::BadLine(n))?;
-    Ok((numbers.ok_or(Stop::BadLine(n))?, rest))
+    match read_line(text) {
+        Some((Some(numbers), rest)) => Ok((numbers, rest)),
+        Some((None, _)) => Err(Stop::BadLine(n)),
+        None => Err(Stop::BadLine(n)),
+    }
 }

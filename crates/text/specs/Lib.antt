@@ -19,3 +19,4 @@ pub mod Shapes
 pub mod Value
 pub mod Walk
 pub mod WordTurns
+pub mod Zeros

@@ -5,14 +5,15 @@ ghost use Rattle.std.proofs.Math.Option.{none, some};
 ghost use Rattle.text.specs.Number.{given, largest, is_digit, starts_well, number_of};
 ghost use Rattle.text.specs.Line.{line_numbers};
 ghost use Rattle.text.specs.Front.{as_option, few, front_line};
+ghost use Rattle.text.specs.Zeros.{Behind, padded, taken, padded-back};
 
 use std::marker::Model;
 
 // A line has no more numbers than this: they need no heap.
 const MOST: usize = 32;
 
-// The numbers of a line: an array and how many of it stand (no heap, see `MOST`). (No `Copy`: of one that is, beside a slice, `?` has no proof in `script`.)
-#[derive(Clone, Drop)]
+// The numbers of a line: an array and how many of it stand (no heap, see `MOST`). Zeros stand behind them, so that it may be `Copy`.
+#[derive(Clone, Copy)]
 pub struct Numbers {
     n: [u32; MOST],
     count: usize,
@@ -24,7 +25,11 @@ impl Model for Numbers {
 
     ghost view = { λ s. take s.count s.n };
 
-    ghost invariant = { λ s. s.count ≤ 32 };
+    ghost invariant = { λ s. Behind s.count s.n };
+
+    ghost inverse = { λ ns. record { n = padded ns; count = length ns } };
+
+    ghost inverse_ok = { λ s h i. record { n = padded-back s.count s.n h i; count = taken s.count s.n h i } };
 }
 
 impl Numbers {

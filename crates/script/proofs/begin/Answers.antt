@@ -18,25 +18,22 @@ use Rattle.text.specs.FrontWalk.{begun-bad, begun-front}
 use Rattle.script.specs.Rules.{set_up, event}
 use Rattle.script.specs.Stops.{said}
 use Rattle.script.proofs.Ends.{short-bad, short-refused, some-number, made-is}
-use Rattle.script.proofs.begin.Goals.{in_default-via-then-as_slice-lt2, in_default-via-else-as_slice-lt2+else-this-lt3}
+use Rattle.script.proofs.begin.Goals.{in_default-as_slice-via-then-as_slice-lt2, in_default-as_slice-via-else-as_slice-lt2+else-this-lt3}
 use Rattle.script.proofs.begin.Goals as goal
-
-pub returns-in_err-counts : goal.returns-in_err-counts
-unfolding said
-returns-in_err-counts c =
-    let bad = c.in_err-counts.ensures in
-    let p = err_from_is_err_and c.from_residual.result c.from_residual.ensures.1 in
-    rw (p.1, p.2, bad.1) (begun-bad set_up event c.args.text.now (bad.0 2 (omega arith)), short-bad 1 (omega arith))
 
 pub returns-in_default : goal.returns-in_default
 unfolding said
-returns-in_default c =
-    let another : length c.in_ok-counts.counts ≡ 2 → ⊥ =
-    elim c.in_default.branch [
-      | in_default-via-then-as_slice-lt2 w ↦ (λ e. omega (arith, ltb-true, ap length c.as_slice.ensures))
-      | in_default-via-else-as_slice-lt2+else-this-lt3 w ↦ (λ e. omega (arith, ltb-true, ltb-false, ap length c.as_slice.ensures))
+returns-in_default c = (begun-bad set_up event c.args.text.now (c.in_default.ensures.0 2 (omega arith)), short-bad 1 (omega arith))
+
+pub returns-in_default-as_slice : goal.returns-in_default-as_slice
+unfolding said
+returns-in_default-as_slice c =
+    let another : length c.in-Ok.read.0 ≡ 2 → ⊥ =
+    elim c.in_default-as_slice.branch [
+      | in_default-as_slice-via-then-as_slice-lt2 w ↦ (λ e. omega (arith, ltb-true, ap length c.as_slice.ensures))
+      | in_default-as_slice-via-else-as_slice-lt2+else-this-lt3 w ↦ (λ e. omega (arith, ltb-true, ltb-false, ap length c.as_slice.ensures))
     ] in
-    (begun-bad set_up event c.args.text.now (front-other c.args.text.now c.in_ok-counts.ensures 2 another), short-bad 1 (omega arith))
+    (begun-bad set_up event c.args.text.now (front-other c.args.text.now c.in-Ok.ensures 2 another), short-bad 1 (omega arith))
 
 -- what line 1 makes of the answer
 sized-first : (text ns s rest : List ℕ) → front_line text ≡ some (Some ns, rest) → s ≡ ns → length s ≡ 2
@@ -47,16 +44,16 @@ sized-first text ns s rest read e two =
 pub returns-in_err-keepers : goal.returns-in_err-keepers
 returns-in_err-keepers c =
     let s = c.as_slice.result.now in
-    let line1 = sized-first c.args.text.now c.in_ok-counts.counts s c.in_ok-counts.text.now c.in_ok-counts.ensures c.as_slice.ensures (omega arith) in
+    let line1 = sized-first c.args.text.now c.in-Ok.read.0 s c.in-Ok.read.1.now c.in-Ok.ensures c.as_slice.ensures (omega arith) in
     let stop = c.in_err-keepers.ensures in
-    let p = err_from_is_err_and c.from_residual-in_err-keepers.result c.from_residual-in_err-keepers.ensures.1 in
+    let p = err_from_is_err_and c.from_residual.result c.from_residual.ensures.1 in
     rw (p.1, p.2) (line1 ∙ (stop (get_or s 0 0)).0, (stop (get_or s 0 0)).1)
 
 pub returns-in-Err : goal.returns-in-Err
 unfolding said
 returns-in-Err c =
     let s = c.as_slice.result.now in
-    let line1 = sized-first c.args.text.now c.in_ok-counts.counts s c.in_ok-counts.text.now c.in_ok-counts.ensures c.as_slice.ensures (omega arith) in
+    let line1 = sized-first c.args.text.now c.in-Ok.read.0 s c.in-Ok.read.1.now c.in-Ok.ensures c.as_slice.ensures (omega arith) in
     let rest = c.in_ok-keepers.text.now in
     let keepers = c.in_ok-keepers.keepers in
     let r = c.in-Err.r in
@@ -69,21 +66,21 @@ returns-in-Err c =
       short-refused r,
     )
 
-pub returns-in-Ok : goal.returns-in-Ok
-returns-in-Ok c =
+pub returns-in-Ok-made : goal.returns-in-Ok-made
+returns-in-Ok-made c =
     let s = c.as_slice.result.now in
-    let line1 = sized-first c.args.text.now c.in_ok-counts.counts s c.in_ok-counts.text.now c.in_ok-counts.ensures c.as_slice.ensures (omega arith) in
+    let line1 = sized-first c.args.text.now c.in-Ok.read.0 s c.in-Ok.read.1.now c.in-Ok.ensures c.as_slice.ensures (omega arith) in
     let rest = c.in_ok-keepers.text.now in
     let keepers = c.in_ok-keepers.keepers in
     let plan : Plan = record { desks = get_or s 0 0; cells = get_or s 1 0; keepers = keepers } in
-    let code : 0 ≡ (set_up_rule plan).code = c.in-Ok.ensures.code in
-    let made : c.in-Ok.table ≡ (set_up_rule plan).table = c.in-Ok.ensures.table in
-    let set = made-is (get_or s 0 0) (get_or s 1 0) keepers 0 c.in-Ok.table code made in
-    let after = (front-known c.args.text.now c.in_ok-counts.counts c.in_ok-counts.text.now c.in_ok-counts.ensures).after in (
+    let code : 0 ≡ (set_up_rule plan).code = c.in-Ok-made.ensures.code in
+    let made : c.in-Ok-made.table ≡ (set_up_rule plan).table = c.in-Ok-made.ensures.table in
+    let set = made-is (get_or s 0 0) (get_or s 1 0) keepers 0 c.in-Ok-made.table code made in
+    let after = (front-known c.args.text.now c.in-Ok.read.0 c.in-Ok.read.1.now c.in-Ok.ensures).after in (
       line1
           ∙ c.in_ok-keepers.ensures.0 (get_or s 0 0)
           ∙ ap (λ (x : ℕ × Table). started set_up event x (lines_of rest)) set
-          ∙ started-run set_up event rest 0 0 c.in-Ok.table refl,
+          ∙ started-run set_up event rest 0 0 c.in-Ok-made.table refl,
       rw made (set-up-sound plan c.in_ok-keepers.ensures.1 (omega (arith, code))),
       rw made (set-up-room plan c.in_ok-keepers.ensures.1),
       omega (arith, after, c.in_ok-keepers.ensures.2),

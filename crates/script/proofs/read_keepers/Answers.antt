@@ -2,7 +2,6 @@
 -- Assumes nothing.
 use Rattle.std.proofs.Common.{◌≡◌, ℕ, List, ◌-◌, length, replicate, refl, sym, ap, ◌∙◌, arith, length-append}
 use Rattle.std.proofs.lemmas.List.{length-replicate}
-use Rattle.std.proofs.lemmas.Result.{err_from_is_err_and}
 use Rattle.text.specs.Lines.Front.{front-other, front-known}
 use Rattle.text.specs.Walk.{cells-refused, started-refused}
 use Rattle.text.specs.FrontWalk.{sized-bad, sized-front}
@@ -23,23 +22,20 @@ returns-then-not-cells c =
       omega arith,
     )
 
-pub returns-in_err-numbers : goal.returns-in_err-numbers
+pub returns-in_default : goal.returns-in_default
 unfolding said
-returns-in_err-numbers c =
+returns-in_default c =
     let text = c.args.text.now in
     let cells = c.args.cells in
-    let bad = c.in_err-numbers.ensures in
-    let p = err_from_is_err_and c.from_residual.result c.from_residual.ensures.1 in
-    rw (p.1, p.2, bad.1)
-    (λ desks. (sized-bad set_up event text desks cells (omega arith) (omega arith) (bad.0 cells (omega arith)), short-bad 2 (omega arith)))
+    λ desks. (sized-bad set_up event text desks cells (omega arith) (omega arith) (c.in_default.ensures.0 cells (omega arith)), short-bad 2 (omega arith))
 
 pub returns-then-numbers-cells : goal.returns-then-numbers-cells
 unfolding said
 returns-then-numbers-cells c =
     let text = c.args.text.now in
     let cells = c.args.cells in
-    let another : length c.in_ok-numbers.numbers ≡ cells → ⊥ = λ e. c.if-numbers-cells.true (ap length c.as_slice-numbers.ensures ∙ e) in λ desks. (
-      sized-bad set_up event text desks cells (omega arith) (omega arith) (front-other text c.in_ok-numbers.ensures cells another),
+    let another : length c.in-Ok.read.0 ≡ cells → ⊥ = λ e. c.if-numbers-cells.true (ap length c.as_slice-numbers.ensures ∙ e) in λ desks. (
+      sized-bad set_up event text desks cells (omega arith) (omega arith) (front-other text c.in-Ok.ensures cells another),
       short-bad 2 (omega arith),
     )
 
@@ -47,11 +43,11 @@ pub returns : goal.returns
 returns c =
     let text = c.args.text.now in
     let cells = c.args.cells in
-    let ns = c.in_ok-numbers.numbers in
+    let ns = c.in-Ok.read.0 in
     let as_many : length ns ≡ cells = sym (ap length c.as_slice-numbers.ensures) ∙ c.if-numbers-cells.false in
     let keepers = padded ns c.as_slice-numbers.result.now cells c.as_slice-numbers.ensures as_many in
     rw (c.copy_from_slice.ensures.after, keepers) (
-      λ desks. sized-front set_up event text c.in_ok-numbers.ensures desks cells (omega arith) (omega arith) as_many,
+      λ desks. sized-front set_up event text c.in-Ok.ensures desks cells (omega arith) (omega arith) as_many,
       omega (arith, length-append ns (replicate (32 - cells) 0), length-replicate {A = ℕ} (32 - cells) 0, as_many),
-      omega (arith, (front-known text ns c.in_ok-numbers.rest.now c.in_ok-numbers.ensures).after),
+      omega (arith, (front-known text ns c.in-Ok.read.1.now c.in-Ok.ensures).after),
     )
